@@ -1,0 +1,4 @@
+pub mod Made
+pub mod Lens
+pub mod Fetches
+pub mod Steps

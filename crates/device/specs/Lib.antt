@@ -1,0 +1,9 @@
+pub mod Blocks
+pub mod Tables
+pub mod Stacks
+pub mod Laws
+pub mod Images
+pub mod Held
+pub mod Fixed
+pub mod Faults
+pub mod Answers
