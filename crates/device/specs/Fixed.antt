@@ -2,12 +2,13 @@
 use mathlib.Core.List.{List, [], _∷_}
 use Prim.Native.Nat.{ℕ, _*_}
 use lib.ListN.{drop}
+use Rattle.device.specs.declared.level.Level.{Level}
 use Rattle.device.specs.Images.{image-blocks}
 
--- A level table as a value: how many containers are mounted, and start and length of each record, the whole device first.
+-- A level table as a value: how many containers are mounted, and the records, the whole device first.
 pub record Table : Type 0 where
   pub depth : ℕ
-  pub levels : List (ℕ × ℕ)
+  pub records : List Level
 
 -- The references lent to a device, the list of bad blocks that it was given, the bytes behind its last block, and the level tables
 -- of its layers, the outermost first.

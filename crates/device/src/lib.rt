@@ -11,6 +11,7 @@ use crate::fault::DeviceFault;
 pub mod borrowed;
 pub mod fault;
 pub mod image;
+pub mod level;
 pub mod scratch;
 pub mod standing;
 
