@@ -1,3 +1,5 @@
 pub mod Elsewhere
 pub mod WindowLaws
 pub mod Nests
+pub mod NestedWindows
+pub mod LevelLaws

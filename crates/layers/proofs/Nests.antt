@@ -23,7 +23,7 @@ origin-more rs k = rw add-one refl
 
 -- a level that is mounted inside the deepest lies inside the levels around it
 pub mounted : (rs : List Level) (depth : ℕ) (l : Level) → Levels-inside rs depth → depth < 7 → l .start + l .length ≤ at rs depth .length
-  → Levels-inside (set rs (depth + 1) l) (depth + 1)
+    → Levels-inside (set rs (depth + 1) l) (depth + 1)
 mounted rs depth l s room inside =
     (length-set rs (depth + 1) l ∙ s .0, omega arith, (λ k h. go k (omega arith) (cases-eq k depth)), rw (old 0 (omega arith)) (s .3))
   where
@@ -34,6 +34,6 @@ mounted rs depth l s room inside =
     new k e = let lt : suc k < length rs = omega (arith, s .0) in let same : depth + 1 ≡ suc k = omega arith in rw (same, getD-set-same)
 
     go : (k : ℕ) → k ≤ depth → (k ≡ depth) ⊎ (k ≡ depth → ⊥)
-      → at (set rs (depth + 1) l) (suc k) .start + at (set rs (depth + 1) l) (suc k) .length ≤ at (set rs (depth + 1) l) k .length
+        → at (set rs (depth + 1) l) (suc k) .start + at (set rs (depth + 1) l) (suc k) .length ≤ at (set rs (depth + 1) l) k .length
     go k h (inl e) = rw (new k e, old k h, e) inside
     go k h (inr e) = rw (old (suc k) (omega (arith, e)), old k h) (s .2 k (omega (arith, e)))

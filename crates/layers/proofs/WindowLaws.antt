@@ -42,7 +42,7 @@ module _ (s n : ℕ) (bs : List Block) (w : Whole bs) (b : ℕ) (h : b < window-
       (λ o k. byte-seen (window s n) bs (length bs) refl (512 * b + o) (omega arith) ∙ ap (byte bs) (omega arith))
 
   pub window-kept : (x : Block) → length (x .bytes) ≡ 512 → x .bad ≡ is-bad bs (s + b)
-    → kept (window s n) bs (set (seen (window s n) bs) b x) ≡ set bs (s + b) x
+      → kept (window s n) bs (set (seen (window s n) bs) b x) ≡ set bs (s + b) x
   unfolding window
   window-kept x l e =
       same-blocks (kept (window s n) bs new) (set bs (s + b) x) (whole-kept (window s n) bs new) (whole-set bs (s + b) x w l)
@@ -71,8 +71,8 @@ module _ (s n : ℕ) (bs : List Block) (w : Whole bs) (b : ℕ) (h : b < window-
           ∙ sym (byte-set-other bs (s + b) x (512 * s + a) (λ q. p (omega arith)))
 
       at : (t : ℕ) → t < 512 * length bs
-        → ((a : ℕ) × (a < 512 * window-count s n (length bs)) × (512 * s + a ≡ t)) ⊎ ((a : ℕ) → a < 512 * window-count s n (length bs) → 512 * s + a ≡ t → ⊥)
-        → byte (kept (window s n) bs new) t ≡ byte (set bs (s + b) x) t
+          → ((a : ℕ) × (a < 512 * window-count s n (length bs)) × (512 * s + a ≡ t)) ⊎ ((a : ℕ) → a < 512 * window-count s n (length bs) → 512 * s + a ≡ t → ⊥)
+          → byte (kept (window s n) bs new) t ≡ byte (set bs (s + b) x) t
       at t k (inl p) =
           ap (byte (kept (window s n) bs new)) (sym (p .2)) ∙ byte-kept-at (window s n) bs new (length bs) refl (p .0) (p .1)
           ∙ hit (p .0) (p .1) (cases-eq (p .0 / 512) b) ∙ ap (byte (set bs (s + b) x)) (p .2)
@@ -92,15 +92,15 @@ window-fetch s n bs w b h =
 
 -- a write to a block of the window is a write below
 pub window-stored : (s n : ℕ) (k j : Stack) → Whole (shown k) → (b : ℕ) → b < window-count s n (length (shown k)) → (from : List ℕ) → length from ≡ 512
-  → j ≡ stored (fetch (shown k) (s + b)) k (s + b) from → over (window s n) j ≡ stored (fetch (shown (over (window s n) k)) b) (over (window s n) k) b from
+    → j ≡ stored (fetch (shown k) (s + b)) k (s + b) from → over (window s n) j ≡ stored (fetch (shown (over (window s n) k)) b) (over (window s n) k) b from
 unfolding is-bad
 window-stored s n k j w b h from l p =
     ap (over (window s n)) p
     ∙ rw (window-fetch s n (shown k) w b h, fetch-below (shown k) (s + b) (omega (arith, standing s n (length (shown k)) b h)))
-      (go (getD (shown k) (s + b) none .bad) refl)
+    (go (getD (shown k) (s + b) none .bad) refl)
   where
     go : (t : Bool) → is-bad (shown k) (s + b) ≡ t
-      → over (window s n) (stored (cond t (Err (BadBlock (s + b))) (Ok (getD (shown k) (s + b) none .bytes))) k (s + b) from)
+        → over (window s n) (stored (cond t (Err (BadBlock (s + b))) (Ok (getD (shown k) (s + b) none .bytes))) k (s + b) from)
         ≡ stored (elsewhere b (cond t (Err (BadBlock (s + b))) (Ok (getD (shown k) (s + b) none .bytes)))) (over (window s n) k) b from
     go true e = refl
     go false e = ap (λ (m : List Block). over (window s n) (put k m)) (sym (window-kept s n (shown k) w b h (good from) l (sym e)))

@@ -32,7 +32,7 @@ window s n =
       count = window-count s n;
       place = λ m a. 512 * s + a;
       inside = λ m a h. window-inside s n m a (leb (s + n) m) refl h;
-      apart = λ m a b ha hb e. omega arith
+      apart = λ m a b ha hb e. omega arith;
     }
 
 -- a window over what is held

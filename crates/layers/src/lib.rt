@@ -1,4 +1,4 @@
 // Layers that show whole blocks of what is below: windows, and the levels of mounted containers.
-//pub mod levels;
+pub mod levels;
 pub mod table;
 pub mod window;

@@ -18,7 +18,7 @@ returns-in-Ok g c =
     let e = window-fetch (c .args .self .now .start) (c .args .self .now .length) (shows h) (whole-seen-all _ _ (h .whole)) (c .args .b) (omega arith) in
     record {
       answer = through-ok (c .args .b) _ _ e (c .in-Ok .ensures tt .answer);
-      buffer = through-filled (c .args .b) _ _ e (c .args .into .now) (c .read .last .into) (c .in-Ok .ensures tt .buffer)
+      buffer = through-filled (c .args .b) _ _ e (c .args .into .now) (c .read .last .into) (c .in-Ok .ensures tt .buffer);
     }
 
 pub returns-in-Err : need.returns-in-Err
@@ -27,5 +27,5 @@ returns-in-Err g c =
     let e = window-fetch (c .args .self .now .start) (c .args .self .now .length) (shows h) (whole-seen-all _ _ (h .whole)) (c .args .b) (omega arith) in
     record {
       answer = through-err (c .args .b) _ _ e _ (c .in-Err .ensures tt .answer);
-      buffer = through-filled (c .args .b) _ _ e (c .args .into .now) (c .read .last .into) (c .in-Err .ensures tt .buffer)
+      buffer = through-filled (c .args .b) _ _ e (c .args .into .now) (c .read .last .into) (c .in-Err .ensures tt .buffer);
     }

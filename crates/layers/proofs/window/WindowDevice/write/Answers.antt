@@ -19,7 +19,7 @@ returns-in-Ok g c =
     record {
       answer = through-ok (c .args .b) _ _ e (c .in-Ok .ensures tt .answer);
       stack = window-stored (c .args .self .now .start) (c .args .self .now .length) (h .stack) (g .D·Device .held (c .write .last .self) .stack) (whole-seen-all _ _ (h .whole)) (c .args .b) (omega arith) (c .args .from .now) (c .told-from) (c .in-Ok .ensures tt .stack);
-      fixed = c .in-Ok .ensures tt .fixed
+      fixed = c .in-Ok .ensures tt .fixed;
     }
 
 pub returns-in-Err : need.returns-in-Err
@@ -29,5 +29,5 @@ returns-in-Err g c =
     record {
       answer = through-err (c .args .b) _ _ e _ (c .in-Err .ensures tt .answer);
       stack = window-stored (c .args .self .now .start) (c .args .self .now .length) (h .stack) (g .D·Device .held (c .write .last .self) .stack) (whole-seen-all _ _ (h .whole)) (c .args .b) (omega arith) (c .args .from .now) (c .told-from) (c .in-Err .ensures tt .stack);
-      fixed = c .in-Err .ensures tt .fixed
+      fixed = c .in-Err .ensures tt .fixed;
     }
