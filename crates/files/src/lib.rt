@@ -1,0 +1,2 @@
+// A pack: a device with its mounted containers, and the calls on its deepest level.
+pub mod pack;

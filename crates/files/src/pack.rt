@@ -1,0 +1,45 @@
+// A pack and the calls on it.
+ghost use mathlib.Core.Path.{_≡_};
+ghost use lib.ListN.{length};
+ghost use Rattle.device.specs.Held.{shows};
+ghost use Rattle.volume.specs.Initial.{init-answer};
+ghost use Rattle.files.specs.States.{state-of, new-state, deepest, initialized};
+use device::Device;
+use layers::levels::Levels;
+use layers::levels::LevelsDevice;
+use volume::fault::FileFault;
+use volume::initial::initialize;
+
+// A device with its mounted containers. Each call works on the deepest level.
+#[derive(Drop)]
+pub struct Pack<D: Device> {
+    levels: Levels<D>,
+}
+
+impl<D: Device> Pack<D> {
+    // A pack on the whole of a device.
+    pub fn over(below: D) -> Pack<D>
+        ensures state { λ r. ⌜ state-of (D·Device .held) r ≡ new-state (D·Device .held below) ⌝ }
+        ensures below { λ r. ⌜ r .levels .below ≡ below ⌝ }
+    {
+        Pack {
+            levels: Levels::over(below),
+        }
+    }
+
+    // The mounted containers, for reading.
+    pub fn levels(&self) -> &Levels<D>
+        ensures { λ r. ⌜ now r ≡ now (self .entry) .levels ⌝ }
+    {
+        &self.levels
+    }
+
+    // Makes a new volume of the deepest level, with a directory of so many segments.
+    pub fn initialize(&mut self, segments: u8) -> Result<(), FileFault>
+        ensures answer { λ r. ⌜ r ≡ init-answer segments (deepest (state-of (D·Device .held) (now (self .entry)))) ⌝ }
+        ensures state { λ _. ⌜ state-of (D·Device .held) (now (self .exit)) ≡ initialized segments (state-of (D·Device .held) (now (self .entry))) ⌝ }
+        ensures fixed { λ _. ⌜ D·Device .fixed (now (self .exit) .levels .below) ≡ D·Device .fixed (now (self .entry) .levels .below) ⌝ }
+    {
+        initialize(&mut self.levels, segments)
+    }
+}

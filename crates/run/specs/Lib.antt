@@ -1,0 +1,6 @@
+pub mod Faults
+pub mod Orders
+pub mod Pieces
+pub mod Report
+pub mod Fields
+pub mod Play
