@@ -1,11 +1,11 @@
 -- What one write after another leaves.
-use Prim.Native.Nat.{ℕ, _+_, _-_, _≤_, _<_}
-use mathlib.Core.Path.{_≡_, refl, sym, ap, _∙_}
-use mathlib.Core.List.{List, [], _∷_, _++_}
+use Prim.Native.Nat.{ℕ, _+_, _-_, _≤_}
+use mathlib.Core.Path.{_≡_, sym, ap, _∙_}
+use mathlib.Core.List.{List, _++_}
 use native.Mathlib.Omega.{arith}
 use native.Mathlib.Nat.{zero-add}
 use lib.ListN.{length, take, drop, replicate}
-use Rattle.std.proofs.shelf.Lists.{append-assoc, take-at, drop-at, drop-drop, length-take-le, length-append, length-drop, length-replicate, drop-replicate, replicate-append-replicate}
+use Rattle.std.proofs.shelf.Lists.{append-assoc, take-at, drop-at, drop-drop, length-take-le, length-append, length-replicate, drop-replicate, replicate-append-replicate}
 use borrow.Rule.Slice.PartMut.{putMid}
 use Rattle.codec.specs.Words.{written}
 
@@ -26,7 +26,7 @@ written-more bs at n xs ys e h =
     let long : length (take at bs ++ xs) ≡ n = simp length-append (omega (arith, length-take-le at bs h)) in
     let r : List ℕ = drop (at + length xs) bs in
     let s : written (take at bs ++ (xs ++ r)) n ys ≡ (take at bs ++ xs) ++ (ys ++ drop (length ys) r)
-      = rw (← append-assoc (take at bs) xs r) (behind (take at bs ++ xs) r ys n long) in
+    = rw (← append-assoc (take at bs) xs r) (behind (take at bs ++ xs) r ys n long) in
     let k : at + length xs + length ys ≡ at + length (xs ++ ys) = simp length-append (omega arith) in
     let d : drop (length ys) r ≡ drop (at + length (xs ++ ys)) bs = drop-drop (length ys) (at + length xs) bs ∙ ap (λ m. drop m bs) k in
     s ∙ append-assoc (take at bs) xs (ys ++ drop (length ys) r)
@@ -51,7 +51,7 @@ into-zeros p ys n g at m e f =
     let z : List ℕ = replicate (length ys + m) 0 in
     let long : length q ≡ at = simp (length-append, length-replicate) e in
     let split : p ++ replicate n 0 ≡ q ++ z
-      = ap (λ (k : ℕ). p ++ replicate k 0) f ∙ ap (λ (x : List ℕ). p ++ x) (sym (replicate-append-replicate g (length ys + m) 0)) ∙ sym (append-assoc p (replicate g 0) z) in
+    = ap (λ (k : ℕ). p ++ replicate k 0) f ∙ ap (λ (x : List ℕ). p ++ x) (sym (replicate-append-replicate g (length ys + m) 0)) ∙ sym (append-assoc p (replicate g 0) z) in
     let back : drop (length ys) z ≡ replicate m 0
-      = drop-replicate (length ys) (length ys + m) 0 ∙ ap (λ (k : ℕ). replicate k 0) (omega arith) in
+    = drop-replicate (length ys) (length ys + m) 0 ∙ ap (λ (k : ℕ). replicate k 0) (omega arith) in
     ap (λ (x : List ℕ). written x at ys) split ∙ behind q z ys at long ∙ ap (λ (x : List ℕ). q ++ (ys ++ x)) back ∙ simp append-assoc

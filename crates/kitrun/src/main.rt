@@ -12,6 +12,7 @@ const MOST: usize = 8192;
 
 // The bytes of the image, and of the workspace that a run asks for.
 const IMAGE: usize = 51_200;
+
 const WORKSPACE: usize = 32_768;
 
 // A field takes three bytes and more, so a run has at most 2,730 of them and a rest, each with room for a line.
@@ -29,7 +30,12 @@ fn main(rt: LibcRuntime) -> io::Result<()> {
     let mut work = vec![in heap; 0u8; WORKSPACE]?;
     let mut report = vec![in heap; 0u8; REPORT]?;
     let mut pack = Pack::over(Image::over(memory.as_mut_slice(), &[]));
-    let ran = run(&mut pack, input.as_slice(), work.as_mut_slice(), report.as_mut_slice());
+    let ran = run(
+        &mut pack,
+        input.as_slice(),
+        work.as_mut_slice(),
+        report.as_mut_slice(),
+    );
     rt.stdout().write_all(&report[0..20 * ran.lines])?;
     match ran.end {
         End::Done => Ok(()),

@@ -45,7 +45,7 @@ fn set_level(level: &mut Level, start: u32, length: u32)
 
 impl LevelTable {
     // The table of a device of so many blocks, with no container mounted.
-    pub fn new(blocks: u32) -> LevelTable
+    pub(crate) fn new(blocks: u32) -> LevelTable
         ensures { λ r. ⌜ table (r .depth) (r .records) ≡ new-table blocks ⌝ }
     {
         LevelTable {
@@ -58,28 +58,28 @@ impl LevelTable {
     }
 
     // How many containers are mounted.
-    pub fn depth(&self) -> usize
+    pub(crate) fn depth(&self) -> usize
         ensures { λ r. ⌜ r ≡ now (self .entry) .depth ⌝ }
     {
         self.depth
     }
 
     // The record of the whole device.
-    pub fn whole(&self) -> Level
+    pub(crate) fn whole(&self) -> Level
         ensures { λ r. ⌜ r ≡ at (now (self .entry) .records) 0 ⌝ }
     {
         self.records[0]
     }
 
     // The record of the deepest level.
-    pub fn deepest(&self) -> Level
+    pub(crate) fn deepest(&self) -> Level
         ensures { λ r. ⌜ r ≡ at (now (self .entry) .records) (now (self .entry) .depth) ⌝ }
     {
         self.records[self.depth]
     }
 
     // The block of the device that is the first of the deepest level.
-    pub fn origin(&self) -> u32
+    pub(crate) fn origin(&self) -> u32
         ensures first { λ r. ⌜ r ≡ origin (now (self .entry) .records) (now (self .entry) .depth) ⌝ }
         ensures inside { λ r. ⌜ r + at (now (self .entry) .records) (now (self .entry) .depth) .length ≤ at (now (self .entry) .records) 0 .length ⌝ }
     {
@@ -91,7 +91,7 @@ impl LevelTable {
     }
 
     // Mounts the level of `length` blocks from block `start` of the deepest.
-    pub fn mount(&mut self, start: u32, length: u32) -> Result<(), LevelFault>
+    pub(crate) fn mount(&mut self, start: u32, length: u32) -> Result<(), LevelFault>
         ensures answer { λ r. ⌜ r ≡ mount-answer (table (now (self .entry) .depth) (now (self .entry) .records)) start length ⌝ }
         ensures after { λ _. ⌜ table (now (self .exit) .depth) (now (self .exit) .records) ≡ mount-table (table (now (self .entry) .depth) (now (self .entry) .records)) start length ⌝ }
     {
@@ -109,7 +109,7 @@ impl LevelTable {
     }
 
     // Leaves the deepest level for the one around it.
-    pub fn dismount(&mut self) -> Result<(), LevelFault>
+    pub(crate) fn dismount(&mut self) -> Result<(), LevelFault>
         ensures answer { λ r. ⌜ r ≡ dismount-answer (table (now (self .entry) .depth) (now (self .entry) .records)) ⌝ }
         ensures after { λ _. ⌜ table (now (self .exit) .depth) (now (self .exit) .records) ≡ dismount-table (table (now (self .entry) .depth) (now (self .entry) .records)) ⌝ }
     {

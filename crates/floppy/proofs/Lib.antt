@@ -1,0 +1,5 @@
+pub mod Readables
+pub mod Places
+mod Saved
+mod Halves
+mod Scattered

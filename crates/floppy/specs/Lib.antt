@@ -1,0 +1,3 @@
+pub mod Floppies
+pub mod Held
+pub mod Buffers

@@ -1,0 +1,4 @@
+pub mod Encoding
+pub mod Homes
+pub mod Stretches
+pub mod Initials
