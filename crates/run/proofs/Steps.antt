@@ -11,28 +11,16 @@ use Rattle.std.proofs.shelf.Tests.{cond-true, cond-false, cases-lt, le-leb, lt-
 use Rattle.std.specs.declared.result.Result.{Result}
 use Rattle.std.specs.declared.result.Result.the-variants.{Ok}
 use Rattle.files.specs.States.{State}
-use Rattle.run.specs.declared.fault.FieldFault.{FieldFault}
-use Rattle.run.specs.declared.fault.FieldFault.the-variants.{UnknownTag}
-use Rattle.run.specs.declared.field.Field.{Field}
-use Rattle.run.specs.declared.field.Field.the-variants as fields
+use Rattle.runfile.specs.declared.fault.FieldFault.{FieldFault}
+use Rattle.runfile.specs.declared.fault.FieldFault.the-variants.{UnknownTag}
+use Rattle.runfile.specs.declared.field.Field.{Field}
+use Rattle.runfile.specs.declared.field.Field.the-variants as fields
 use Rattle.run.specs.declared.play.End.the-variants.{Done, CutShort, ReportFull, RunTooLong, WorkspaceTooSmall}
-use Rattle.run.specs.Orders.{Order, order-in, decoded}
-use Rattle.run.specs.Pieces.{Piece, ended, whole, short, sized, next-piece}
+use Rattle.runfile.specs.Orders.{Order, order-in, decoded}
+use Rattle.runfile.proofs.Pieces.{sized-whole, sized-short}
+use Rattle.runfile.specs.Pieces.{Piece, ended, whole, short, sized, next-piece}
 use Rattle.run.specs.Fields.{refused, known, obeyed, performed}
 use Rattle.run.specs.Play.{Item, field, rump, joined, up-to, Played, played, play, ran, items, room, reported}
-
--- the piece of three bytes and more, in the words of the code
-pub piece-at : (run : List ℕ) (low high : ℕ) → 3 ≤ length run → low ≡ getD run 1 0 → high ≡ getD run 2 0 → next-piece run ≡ sized (getD run 0 0) (low + 256 * high) (drop 3 run)
-piece-at [] low high h a b = absurd (omega arith)
-piece-at (x ∷ []) low high h a b = absurd (omega arith)
-piece-at (x ∷ y ∷ []) low high h a b = absurd (omega arith)
-piece-at (x ∷ y ∷ z ∷ rest) low high h a b = rw (a, b)
-
-pub sized-whole : (tag size : ℕ) (rest : List ℕ) → size ≤ length rest → sized tag size rest ≡ whole tag (take size rest) (drop size rest)
-sized-whole tag size rest h = cond-true _ _ _ (le-leb size (length rest) h)
-
-pub sized-short : (tag size : ℕ) (rest : List ℕ) → length rest < size → sized tag size rest ≡ short
-sized-short tag size rest h = cond-false _ _ _ (lt-leb size (length rest) h)
 
 -- what follows a field is shorter than what began with it
 pub shorter : (run : List ℕ) (tag : ℕ) (body rest : List ℕ) → next-piece run ≡ whole tag body rest → length rest < length run

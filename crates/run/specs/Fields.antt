@@ -8,9 +8,9 @@ use Rattle.std.specs.declared.result.Result.the-variants.{Ok, Err}
 use Rattle.volume.specs.declared.fault.FileFault.{FileFault}
 use Rattle.volume.specs.Initial.{init-answer}
 use Rattle.files.specs.States.{State, deepest, initialized}
-use Rattle.run.specs.declared.fault.FieldFault.{FieldFault}
-use Rattle.run.specs.declared.fault.FieldFault.the-variants.{OfFile, UnknownTag}
-use Rattle.run.specs.Orders.{Order, initialize, create, store, write, copy, delete, rename, protect, unprotect, mount, dismount, squeeze, decoded}
+use Rattle.runfile.specs.declared.fault.FieldFault.{FieldFault}
+use Rattle.runfile.specs.declared.fault.FieldFault.the-variants.{OfFile, UnknownTag}
+use Rattle.runfile.specs.Orders.{Order, initialize, create, store, write, copy, delete, rename, protect, unprotect, mount, dismount, squeeze, decoded}
 
 -- the answer of a field, and the pack after it
 pub record Outcome : Type 0 where

@@ -1,6 +1,2 @@
-pub mod Faults
-pub mod Orders
-pub mod Pieces
-pub mod Report
 pub mod Fields
 pub mod Play

@@ -8,10 +8,10 @@ use Rattle.codec.specs.Words.{written}
 use Rattle.files.specs.States.{State}
 use Rattle.run.specs.declared.play.End.{End}
 use Rattle.run.specs.declared.play.End.the-variants.{Done, CutShort, ReportFull, RunTooLong, WorkspaceTooSmall}
-use Rattle.run.specs.Faults.{result-number, result-detail}
+use Rattle.runfile.specs.Faults.{result-number, result-detail}
 use Rattle.run.specs.Fields.{Outcome, known, performed}
-use Rattle.run.specs.Pieces.{Piece, ended, short, whole, next-piece}
-use Rattle.run.specs.Report.{line-of}
+use Rattle.runfile.specs.Pieces.{Piece, ended, short, whole, next-piece}
+use Rattle.runfile.specs.Report.{line-of}
 
 -- 0 where all fields have run, 17 where the last is cut short, 18 where the run is too long, the workspace too small, or the report too
 -- small for the next line

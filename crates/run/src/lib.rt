@@ -1,6 +1,3 @@
-// Reads a run file field by field, does what each says to a pack, and reports each in a line.
-pub mod fault;
-pub mod field;
+// Does what the fields of a run file say to a pack, and reports each in a line.
 pub mod perform;
 pub mod play;
-pub mod report;

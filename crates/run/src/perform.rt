@@ -2,13 +2,13 @@
 ghost use mathlib.Core.Path.{_≡_};
 ghost use Rattle.files.specs.States.{state-of};
 ghost use Rattle.run.specs.Fields.{known, performed};
-ghost use Rattle.run.specs.Faults.{result-number, result-detail};
-use crate::fault::FieldFault;
-use crate::fault::FieldFromFile;
-use crate::field::Field;
-use crate::field::decode;
+ghost use Rattle.runfile.specs.Faults.{result-number, result-detail};
 use device::Device;
 use files::pack::Pack;
+use runfile::fault::FieldFault;
+use runfile::fault::FieldFromFile;
+use runfile::field::Field;
+use runfile::field::decode;
 
 // Whether a tag is that of a field that the packer has.
 pub fn is_known(tag: u8) -> bool

@@ -5,14 +5,14 @@ ghost use lib.ListN.{length};
 ghost use Rattle.files.specs.States.{state-of};
 ghost use Rattle.run.specs.Fields.{performed};
 ghost use Rattle.run.specs.Play.{end-number, ran, play, items, shown-tag, reported};
-use crate::field::next_field;
 use crate::perform::detail_of;
 use crate::perform::is_known;
 use crate::perform::number_of;
 use crate::perform::perform;
-use crate::report::write_line;
 use device::Device;
 use files::pack::Pack;
+use runfile::field::next_field;
+use runfile::report::write_line;
 
 // How a run ended.
 #[derive(Clone, Copy, Debug, PartialEq, Eq)]

@@ -3,9 +3,9 @@ use Rattle.std.proofs.shelf.Results.{err-from-errBy}
 use Rattle.std.specs.declared.result.Result.the-variants.{Ok, Err}
 use Rattle.files.specs.States.{State, state-of, initialized, deepest}
 use Rattle.volume.specs.Initial.{init-answer}
-use Rattle.run.specs.declared.field.Field.the-variants as fields
-use Rattle.run.specs.declared.fault.FieldFault.the-variants.{UnknownTag, OfFile}
-use Rattle.run.specs.Orders.{order-in, initialize}
+use Rattle.runfile.specs.declared.field.Field.the-variants as fields
+use Rattle.runfile.specs.declared.fault.FieldFault.the-variants.{UnknownTag, OfFile}
+use Rattle.runfile.specs.Orders.{order-in, initialize}
 use Rattle.run.specs.Fields.{Outcome, obeyed, performed, refused, turned}
 use Rattle.run.proofs.Steps.{unknown, said, not-built}
 use Rattle.run.proofs.perform.perform.Needs as need

@@ -5,7 +5,7 @@ use borrow.Author.Tests.{true-eqb, false-eqb}
 use borrow.Author.Needs.{needs}
 use Rattle.std.proofs.shelf.Tests.{le-leb, lt-leb}
 use Rattle.files.specs.States.{state-of}
-use Rattle.run.specs.Pieces.{next-piece, whole}
+use Rattle.runfile.specs.Pieces.{next-piece, whole}
 use Rattle.run.specs.Play.{Played}
 use Rattle.run.proofs.Steps.{Onward, at-end, at-rump, at-full, one-more, shorter}
 use Rattle.run.proofs.play.run_fields.Needs as need

@@ -1,7 +1,7 @@
 // Why a field is refused.
 ghost use mathlib.Core.Path.{_≡_};
-ghost use Rattle.run.specs.Faults.{field-number, field-detail};
-ghost use Rattle.run.specs.declared.fault.FieldFault.the-variants.{OfFile};
+ghost use Rattle.runfile.specs.Faults.{field-number, field-detail};
+ghost use Rattle.runfile.specs.declared.fault.FieldFault.the-variants.{OfFile};
 use volume::fault::FileFault;
 use volume::fault::FileFaultDebug;
 use volume::fault::FileFaultPartialEq;

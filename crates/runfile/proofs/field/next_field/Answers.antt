@@ -3,8 +3,8 @@ use native.Mathlib.Omega.{arith}
 use lib.ListN.{length, drop, getD}
 use Rattle.std.proofs.shelf.Lists.{take-rest}
 use Rattle.std.proofs.shelf.Tests.{ltb-false, ltb-true}
-use Rattle.run.proofs.Steps.{piece-at, sized-whole}
-use Rattle.run.proofs.field.next_field.Needs as need
+use Rattle.runfile.proofs.Pieces.{piece-at, sized-whole}
+use Rattle.runfile.proofs.field.next_field.Needs as need
 
 pub returns-else-size-rest : need.returns-else-size-rest
 returns-else-size-rest c =

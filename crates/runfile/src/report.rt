@@ -3,7 +3,7 @@ ghost use mathlib.Core.Path.{_≡_};
 ghost use Prim.Native.Nat.{ℕ, _+_, _≤_, _<_};
 ghost use lib.ListN.{length};
 ghost use Rattle.codec.specs.Words.{written};
-ghost use Rattle.run.specs.Report.{digit-at, line-of};
+ghost use Rattle.runfile.specs.Report.{digit-at, line-of};
 use codec::words::put;
 
 fn digit(n: usize, unit: usize) -> u8
@@ -44,15 +44,8 @@ pub fn line(number: usize, tag: u8, result: u8, detail: u32) -> [u8; 20]
     ]
 }
 
-// Writes a line at `at`.
-pub(crate) fn write_line(
-    report: &mut [u8],
-    at: usize,
-    number: usize,
-    tag: u8,
-    result: u8,
-    detail: u32,
-)
+// Writes a line at `at`. For our other crates: the caller has checked that there is room for it.
+pub fn write_line(report: &mut [u8], at: usize, number: usize, tag: u8, result: u8, detail: u32)
     requires { ⌜ at + 20 ≤ length (now report) ⌝ }
     ensures { λ _. ⌜ now (report .exit) ≡ written (now (report .entry)) at (line-of number tag result detail) ⌝ }
 {

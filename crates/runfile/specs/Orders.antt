@@ -12,12 +12,12 @@ use Rattle.std.specs.declared.option.Option.the-variants.{Some, None}
 use Rattle.std.specs.declared.result.Result.{Result}
 use Rattle.std.specs.declared.result.Result.the-variants.{Ok, Err}
 use Rattle.codec.specs.Words.{word-at}
-use Rattle.run.specs.declared.fault.FieldFault.{FieldFault}
-use Rattle.run.specs.declared.fault.FieldFault.the-variants.{UnknownTag, WrongLength}
-use Rattle.run.specs.declared.field.Ask.{Ask}
-use Rattle.run.specs.declared.field.Ask.the-variants as ask
-use Rattle.run.specs.declared.field.Field.{Field}
-use Rattle.run.specs.declared.field.Field.the-variants as field
+use Rattle.runfile.specs.declared.fault.FieldFault.{FieldFault}
+use Rattle.runfile.specs.declared.fault.FieldFault.the-variants.{UnknownTag, WrongLength}
+use Rattle.runfile.specs.declared.field.Ask.{Ask}
+use Rattle.runfile.specs.declared.field.Ask.the-variants as ask
+use Rattle.runfile.specs.declared.field.Field.{Field}
+use Rattle.runfile.specs.declared.field.Field.the-variants as field
 
 -- a word of a field as an ask: -1, 0 or a number from 1
 abbrev pub ask-of : ℤ → Option Ask

@@ -1,6 +1,6 @@
 use borrow.Author.Needs.{needs}
-use Rattle.run.specs.Report.{line-of}
-use Rattle.run.proofs.report.line.Needs as need
+use Rattle.runfile.specs.Report.{line-of}
+use Rattle.runfile.proofs.report.line.Needs as need
 
 pub returns : need.returns
 unfolding line-of

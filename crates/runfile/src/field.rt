@@ -4,8 +4,8 @@ ghost use mathlib.Core.Bool.{Bool};
 ghost use Prim.Native.Nat.{ℕ, _+_, _≤_};
 ghost use lib.ListN.{length, take, drop};
 ghost use Rattle.codec.specs.Words.{word-at};
-ghost use Rattle.run.specs.Orders.{ask-of, name-at, order-of, decoded};
-ghost use Rattle.run.specs.Pieces.{piece-of, next-piece};
+ghost use Rattle.runfile.specs.Orders.{ask-of, name-at, order-of, decoded};
+ghost use Rattle.runfile.specs.Pieces.{piece-of, next-piece};
 use crate::fault::FieldFault;
 use codec::words::word_at;
 

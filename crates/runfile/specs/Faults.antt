@@ -1,8 +1,8 @@
 -- The number and the detail of each refusal of a field.
 use Prim.Native.Nat.{ℕ}
 use Rattle.volume.specs.Faults.{file-number, file-detail}
-use Rattle.run.specs.declared.fault.FieldFault.{FieldFault}
-use Rattle.run.specs.declared.fault.FieldFault.the-variants.{OfFile, UnknownTag, WrongLength}
+use Rattle.runfile.specs.declared.fault.FieldFault.{FieldFault}
+use Rattle.runfile.specs.declared.fault.FieldFault.the-variants.{OfFile, UnknownTag, WrongLength}
 use Rattle.std.specs.declared.result.Result.{Result}
 use Rattle.std.specs.declared.result.Result.the-variants.{Ok, Err}
 

@@ -8,8 +8,8 @@ use Rattle.std.specs.declared.option.Option.{Option}
 use Rattle.std.specs.declared.option.Option.the-variants.{Some, None}
 use Rattle.std.specs.declared.result.Result.{Result}
 use Rattle.std.specs.declared.result.Result.the-variants.{Ok, Err}
-use Rattle.run.specs.declared.field.CutShort.{CutShort}
-use Rattle.run.specs.declared.field.Part.{Part}
+use Rattle.runfile.specs.declared.field.CutShort.{CutShort}
+use Rattle.runfile.specs.declared.field.Part.{Part}
 
 -- what a run begins with: nothing, a field that is cut short, or a field with its tag, its body and what follows
 pub data Piece : Type 0 where
