@@ -1,2 +1,3 @@
 // How numbers and text lie in the bytes of a volume.
+pub mod name;
 pub mod words;

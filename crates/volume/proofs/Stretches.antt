@@ -72,9 +72,9 @@ fetch-is-good bs b x e c h l =
     let same : b ≡ c = omega arith in
     subst (λ (z : ℕ). (z < length bs) × (is-bad bs z ≡ false)) same (p .0, p .1)
 
-both-ok : (f : Result (List ℕ) DeviceFault) (r : Result (Unit {0}) DeviceFault) → and-then f r ≡ Ok tt → ((x : List ℕ) × (f ≡ Ok x)) × (r ≡ Ok tt)
+both-ok : (f : Result (List ℕ) DeviceFault) (r : Result (Unit {0}) DeviceFault) → Ok tt ≡ and-then f r → ((x : List ℕ) × (f ≡ Ok x)) × (Ok tt ≡ r)
 both-ok (Ok x) r p = ((x, refl), p)
-both-ok (Err e) r p = absurd (ok-err tt e (sym p))
+both-ok (Err e) r p = absurd (ok-err tt e p)
 
 good-more : (bs : List Block) (b n : ℕ) → All-good bs b (b + 1) → All-good bs (suc b) (suc b + n) → All-good bs b (b + suc n)
 good-more bs b n f r c h l = go (cases-eq c b)
@@ -84,12 +84,18 @@ good-more bs b n f r c h l = go (cases-eq c b)
     go (inr e) = r c (omega (arith, e)) (omega arith)
 
 -- blocks that are read are good
-pub readable-good : (bs : List Block) (b n : ℕ) → readable bs b n ≡ Ok tt → All-good bs b (b + n)
+pub readable-good : (bs : List Block) (b n : ℕ) → Ok tt ≡ readable bs b n → All-good bs b (b + n)
 unfolding readable
 readable-good bs b zero p = λ c h l. absurd (omega arith)
 readable-good bs b (suc n) p =
     let both = both-ok (fetch bs b) _ p in
     good-more bs b n (fetch-is-good bs b (both .0 .0) (both .0 .1)) (readable-good bs (suc b) n (both .1))
+
+-- a good block is not refused
+pub good-accepted : (bs : List Block) (b : ℕ) (e : DeviceFault) → All-good bs b (b + 1) → Err e ≡ answered (fetch bs b) → ⊥
+good-accepted bs b e g p =
+    let at = g b (omega arith) (omega arith) in
+    ok-err _ e (sym (fetch-good bs b (at .0) (at .1)) ∙ read-err (fetch bs b) e p)
 
 -- a good block is written
 pub good-written : (s : Stack) (b : ℕ) (from : List ℕ) (r : Result (Unit {0}) DeviceFault) (k : Stack) → Whole (s .bottom)
@@ -129,29 +135,32 @@ module _ (s : Stack) (m : List Block) (k : Stack) (a : Became s m k) where
   pub became-by : (f : List Block → List Block) (j : Stack) → Became k (f (shown k)) j → Became s (f m) j
   became-by f j b = became-then (f m) j (subst (λ (z : List Block). Became k (f z) j) (became-shown s m k a) b)
 
-  pub became-now : Became s (shown k) k
-  became-now = subst (λ (z : List Block). Became s z k) (sym (became-shown s m k a)) a
+-- one more step, by the blocks shown
+pub became-more : (s k : Stack) (n : List Block) (j : Stack) → Became s (shown k) k → Became k n j → Became s (shown j) j
+became-more s k n j a b = subst (λ (z : List Block). Became s z j) (sym (became-shown k n j b)) (became-then s (shown k) k a n j b)
 
 -- of n blocks that are overwritten with x, i have been: one more, or none is left
-module _ (bs : List Block) (b i n : ℕ) (x : List ℕ) where
-  pub overwritten-more : (cs : List Block) → i < n → cs ≡ set bs (b + i) (good x)
-      → overwritten cs (b + (i + 1)) (replicate (n - (i + 1)) x) ≡ overwritten bs (b + i) (replicate (n - i) x)
+module _ (bs : List Block) (b i n : ℕ) (x : List ℕ) (all : List Block) (r : overwritten bs (b + i) (replicate (n - i) x) ≡ all) where
+  pub overwritten-more : (cs : List Block) → i < n → cs ≡ set bs (b + i) (good x) → overwritten cs (b + (i + 1)) (replicate (n - (i + 1)) x) ≡ all
   unfolding overwritten
   overwritten-more cs h e =
       let m : n - i ≡ suc (n - (i + 1)) = omega arith in
       let c : b + (i + 1) ≡ suc (b + i) = omega arith in
-      rw (e, c, m) refl
+      rw (e, c) (ap (λ (z : ℕ). overwritten bs (b + i) (replicate z x)) (sym m) ∙ r)
 
-  pub overwritten-all : n ≤ i → overwritten bs (b + i) (replicate (n - i) x) ≡ bs
+  pub overwritten-all : n ≤ i → bs ≡ all
   unfolding overwritten
   overwritten-all h =
       let m : n - i ≡ 0 = omega arith in
-      rw m refl
+      ap (λ (z : ℕ). overwritten bs (b + i) (replicate z x)) (sym m) ∙ r
 
--- the two blocks of a segment
-pub overwritten-halves : (bs : List Block) (b c : ℕ) (bytes : List ℕ) → length bytes ≡ 1024 → c ≡ suc b
-    → set (set bs b (good (take 512 bytes))) c (good (take 512 (drop 512 bytes))) ≡ overwritten bs b (halves bytes)
+-- both blocks of a segment
+pub both-written : (s k j : Stack) (b c : ℕ) (bytes : List ℕ) → length bytes ≡ 1024 → c ≡ suc b
+    → Became s (set (shown s) b (good (take 512 bytes))) k → Became k (set (shown k) c (good (take 512 (drop 512 bytes)))) j
+    → Became s (overwritten (shown s) b (halves bytes)) j
 unfolding overwritten
-overwritten-halves bs b c bytes l e =
+both-written s k j b c bytes l e p q =
     let all : take 512 (drop 512 bytes) ≡ drop 512 bytes = take-all 512 (drop 512 bytes) (simp length-drop (omega arith)) in
-    rw (e, all)
+    let r : Became s (set (set (shown s) b (good (take 512 bytes))) c (good (take 512 (drop 512 bytes)))) j
+    = became-by s _ k p (λ z. set z c (good (take 512 (drop 512 bytes)))) j q in
+    rw (e, all) at r

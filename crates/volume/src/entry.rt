@@ -4,6 +4,7 @@ ghost use Prim.Native.Nat.{_+_, _≤_};
 ghost use lib.ListN.{length};
 ghost use Rattle.codec.specs.Words.{written};
 ghost use Rattle.volume.specs.Entries.{status-word, empty-of, head-bytes, entry-bytes};
+use codec::name::Name;
 use codec::words::high;
 use codec::words::low;
 use codec::words::put;
@@ -15,14 +16,6 @@ pub enum Status {
     Empty,
     Permanent,
     Protected,
-}
-
-// Three words of RAD50: six characters of name, three of type.
-#[derive(Clone, Copy, Debug, PartialEq, Eq)]
-pub struct Name {
-    pub first: u16,
-    pub second: u16,
-    pub kind: u16,
 }
 
 // An entry, with zeros behind its extra bytes.

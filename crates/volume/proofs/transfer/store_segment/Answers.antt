@@ -1,11 +1,9 @@
-use mathlib.Core.Path.{subst, _∙_}
-use mathlib.Core.List.{List}
 use Prim.Native.Nat.{ℕ, _+_, _*_}
 use native.Mathlib.Omega.{arith}
-use lib.ListN.{set, take, drop}
-use Rattle.device.specs.Blocks.{Block, good}
-use Rattle.device.specs.Stacks.{shown, Became}
-use Rattle.volume.proofs.Stretches.{good-still, became-by, overwritten-halves}
+use lib.ListN.{set, take}
+use Rattle.device.specs.Blocks.{good}
+use Rattle.device.specs.Stacks.{shown}
+use Rattle.volume.proofs.Stretches.{good-still, both-written}
 use Rattle.volume.proofs.transfer.store_segment.Needs as need
 
 pub write-part-requires : need.write-part-requires
@@ -15,18 +13,19 @@ pub write-part-requires-2 : need.write-part-requires-2
 write-part-requires-2 g c κs =
     let s = g .D·Device .held (c .args .d .now) .stack in
     let k = g .D·Device .held (c .write-part .last .d) .stack in
-    record { room = omega arith; known = λ b h l. good-still s _ k (c .in-Continue-write-part .ensures tt .after) _ _ (c .pre .known) b (omega arith) (omega arith) }
+    let b : ℕ = 4 + 2 * c .args .k in
+    let m = set (shown s) b (good (take 512 (c .args .bytes .now))) in
+    record { room = omega arith; known = λ y h l. good-still s m k (c .in-Continue-write-part .ensures tt .after) b (6 + 2 * c .args .k) (c .pre .known) y (omega arith) (omega arith) }
 
 pub returns : need.returns
 returns g c =
     let s = g .D·Device .held (c .args .d .now) .stack in
     let k = g .D·Device .held (c .write-part .last .d) .stack in
     let j = g .D·Device .held (c .write-part-2 .last .d) .stack in
-    let b : ℕ = 4 + 2 * c .args .k in
-    let bytes : List ℕ = c .args .bytes .now in
-    let a = became-by s _ k (c .in-Continue-write-part .ensures tt .after) (λ z. set z (5 + 2 * c .args .k) (good (take 512 (drop 512 bytes)))) j (c .write-part-2 .ensures .after) in
+    let p = c .in-Continue-write-part .ensures tt in
+    let q = c .write-part-2 .ensures in
     record {
-      answer = c .write-part-2 .ensures .answer;
-      after = subst (λ (z : List Block). Became s z j) (overwritten-halves (shown s) b (5 + 2 * c .args .k) bytes (c .told-bytes) (omega arith)) a;
-      fixed = c .write-part-2 .ensures .fixed ∙ c .in-Continue-write-part .ensures tt .fixed;
+      answer = q .answer;
+      after = both-written s k j (4 + 2 * c .args .k) (5 + 2 * c .args .k) (c .args .bytes .now) (c .told-bytes) (omega arith) (p .after) (q .after);
+      fixed = cc (p .fixed, q .fixed);
     }
