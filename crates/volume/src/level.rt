@@ -12,7 +12,7 @@ pub fn level_size<D: Device>(d: &D) -> u16
 }
 
 // Whether a directory of so many segments fits a level: from 1 to 31, with a block behind them.
-pub(crate) fn segments_fit(total: u16, blocks: u16) -> bool
+pub fn segments_fit(total: u16, blocks: u16) -> bool
     ensures { λ r. ⌜ r ≡ segments-fit total blocks ⌝ }
 {
     1 <= total && total <= 31 && 7 + 2 * total <= blocks

@@ -1,0 +1,2 @@
+// A level: the directory of the volume that a device shows, read into a workspace.
+pub mod load;
