@@ -1,1 +1,4 @@
+pub mod Codes
+pub mod Parts
+pub mod Spellings
 pub mod Written

@@ -1,1 +1,3 @@
+pub mod Dates
+pub mod Names
 pub mod Words

@@ -28,7 +28,7 @@ whole-shown h = whole-seen-all (h .stack .pile) (h .stack .bottom) (h .whole)
 
 -- a block that was read to the workspace, and one that was not
 pub brought-ok : (f : Result (List ℕ) DeviceFault) (old new work after : List ℕ) (at : ℕ) → Ok tt ≡ answered f → new ≡ filled f old → after ≡ written work at new
-  → after ≡ brought f work at
+    → after ≡ brought f work at
 brought-ok (Ok x) old new work after at p q e = e ∙ ap (written work at) q
 brought-ok (Err d) old new work after at p q e = absurd (ok-err tt d p)
 
@@ -37,7 +37,7 @@ brought-err (Ok x) e work at p = absurd (ok-err tt e (sym p))
 brought-err (Err d) e work at p = refl
 
 pub brought-bytes : (f : Result (List ℕ) DeviceFault) (work after : List ℕ) (at : ℕ) → Ok tt ≡ answered f → after ≡ brought f work at
-  → (x : List ℕ) × (f ≡ Ok x) × (after ≡ written work at x)
+    → (x : List ℕ) × (f ≡ Ok x) × (after ≡ written work at x)
 brought-bytes (Ok x) work after at p q = (x, refl, q)
 brought-bytes (Err d) work after at p q = absurd (ok-err tt d p)
 
@@ -54,7 +54,7 @@ written-at b at xs a h k l =
 
 -- one block more in the workspace
 pub holds-more : (bs : List Block) (i : ℕ) (work x after : List ℕ) → Whole bs → Holds bs (512 * i) work → fetch bs (6 + i) ≡ Ok x
-  → after ≡ written work (512 * i) x → 512 * i + 512 ≤ length work → Holds bs (512 * (i + 1)) after
+    → after ≡ written work (512 * i) x → 512 * i + 512 ≤ length work → Holds bs (512 * (i + 1)) after
 holds-more bs i work x after w h e f l = record { at = λ a k. ap (λ (z : List ℕ). getD z a 0) f ∙ here a k (cases-lt a (512 * i)) }
   where
     p : (6 + i < length bs) × (is-bad bs (6 + i) ≡ false) × (x ≡ getD bs (6 + i) none .bytes)

@@ -38,8 +38,10 @@ returns-then-not-segments-fit g c =
     let h = c .in-Continue-read-blocks .ensures tt in
     record {
       answer = load-two n bs (omega arith) (omega arith) (h .answer) (c .word-at-total .result) (c .level-size-blocks .result)
-        (c .word-at-total .ensures ∙ segments-held bs 1024 _ (h .bytes) (omega arith)) (c .level-size-blocks .ensures) (c .if-not-segments-fit .ensures tt);
-      bytes = tt; good = tt; range = tt
+          (c .word-at-total .ensures ∙ segments-held bs 1024 _ (h .bytes) (omega arith)) (c .level-size-blocks .ensures) (c .if-not-segments-fit .ensures tt);
+      bytes = tt;
+      good = tt;
+      range = tt;
     }
 
 pub returns-in-Break-read-blocks-2 : need.returns-in-Break-read-blocks-2
@@ -50,9 +52,11 @@ returns-in-Break-read-blocks-2 g c =
     let p = err-from-errBy (c .from-residual-in-Break-read-blocks-2 .result) (c .from-residual-in-Break-read-blocks-2 .ensures .1) in
     rw (p .1, p .2) (record {
       answer = load-other n bs (omega arith) (omega arith) (h .answer) (c .word-at-total .result) (c .level-size-blocks .result)
-        (c .word-at-total .ensures ∙ segments-held bs 1024 _ (h .bytes) (omega arith)) (c .level-size-blocks .ensures) (c .if-not-segments-fit .ensures tt) _
-        (c .in-Break-read-blocks-2 .ensures tt .answer);
-      bytes = tt; good = tt; range = tt
+          (c .word-at-total .ensures ∙ segments-held bs 1024 _ (h .bytes) (omega arith)) (c .level-size-blocks .ensures) (c .if-not-segments-fit .ensures tt) _
+          (c .in-Break-read-blocks-2 .ensures tt .answer);
+      bytes = tt;
+      good = tt;
+      range = tt;
     })
 
 pub returns : need.returns
@@ -70,9 +74,9 @@ returns g c =
     let is : w ≡ segments bs = c .word-at-total .ensures ∙ segments-held bs 1024 _ (h .bytes) (omega arith) in
     record {
       answer = load-all n bs (omega arith) (omega arith) (h .answer) w (c .level-size-blocks .result)
-        is (c .level-size-blocks .ensures) (c .if-not-segments-fit .ensures tt)
-        (k .answer);
+          is (c .level-size-blocks .ensures) (c .if-not-segments-fit .ensures tt)
+          (k .answer);
       bytes = holds-list bs w _ all (omega arith);
       good = good-join bs 8 (2 * w) (readable-good bs 6 2 (h .answer)) (readable-good bs 8 (2 * w - 2) (k .answer)) (omega arith);
-      range = (least, most, omega arith)
+      range = (least, most, omega arith);
     }

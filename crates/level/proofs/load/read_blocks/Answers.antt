@@ -18,9 +18,10 @@ loop-i-again g c =
     let bs : List Block = shows (g .D·Device .held (c .args .d .now)) in
     let i : ℕ = c .loop-i .i in
     let e = c .in-Continue-read-to .ensures tt in
-    let p = brought-bytes _ _ _ _ (e .answer) (e .workspace) in
-    (readable-more bs 6 i (c .args .to) (omega arith) (e .answer) ∙ c .loop-i .inv .0,
-    holds-more bs i (c .loop-i .work) (p .0) _ (whole-shown (g .D·Device .held (c .args .d .now))) (c .loop-i .inv .1) (p .1) (p .2) (omega arith))
+    let p = brought-bytes _ _ _ _ (e .answer) (e .workspace) in (
+      readable-more bs 6 i (c .args .to) (omega arith) (e .answer) ∙ c .loop-i .inv .0,
+      holds-more bs i (c .loop-i .work) (p .0) _ (whole-shown (g .D·Device .held (c .args .d .now))) (c .loop-i .inv .1) (p .1) (p .2) (omega arith),
+    )
 
 pub returns : need.returns
 returns g c =
@@ -28,7 +29,7 @@ returns g c =
     let e : c .loop-i .i ≡ c .args .to = omega arith in
     record {
       answer = readable-all bs 6 (c .loop-i .i) (c .args .to) (omega arith) ∙ c .loop-i .inv .0;
-      bytes = subst (λ (z : ℕ). Holds bs (512 * z) (c .loop-i .work)) e (c .loop-i .inv .1)
+      bytes = subst (λ (z : ℕ). Holds bs (512 * z) (c .loop-i .work)) e (c .loop-i .inv .1);
     }
 
 pub returns-in-Break-read-to : need.returns-in-Break-read-to
@@ -37,5 +38,5 @@ returns-in-Break-read-to g c =
     let p = err-from-errBy (c .from-residual .result) (c .from-residual .ensures .1) in
     rw (p .1, p .2) record {
       answer = readable-fault bs 6 (c .loop-i .i) (c .args .to) _ (omega arith) (c .in-Break-read-to .ensures tt .answer) ∙ c .loop-i .inv .0;
-      bytes = tt
+      bytes = tt;
     }

@@ -1,0 +1,6 @@
+pub mod Walking
+pub mod Finding
+pub mod Tests
+pub mod Counting
+pub mod Contiguity
+pub mod Breaking
