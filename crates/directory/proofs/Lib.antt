@@ -4,3 +4,4 @@ pub mod Tests
 pub mod Counting
 pub mod Contiguity
 pub mod Breaking
+pub mod Sounding

@@ -1,3 +1,4 @@
 pub mod Walks
 pub mod Finds
 pub mod Rules
+pub mod Sounds

@@ -63,7 +63,7 @@ pub fn find_from(dir: &[u8], order: &[usize], extra: u16, from: Spot, name: Name
 }
 
 // How many entries are tentative.
-pub fn count_tentative(dir: &[u8], order: &[usize], extra: u16, from: Spot) -> usize
+pub(crate) fn count_tentative(dir: &[u8], order: &[usize], extra: u16, from: Spot) -> usize
     requires { ⌜ On-way extra (now dir) (now order) from ⌝ }
     ensures { λ r. ⌜ r ≡ tentatives (left extra (now (dir .entry)) (now (order .entry)) from) ⌝ }
 {
@@ -79,7 +79,7 @@ pub fn count_tentative(dir: &[u8], order: &[usize], extra: u16, from: Spot) -> u
 }
 
 // The blocks of the entries together.
-pub fn sum_blocks(dir: &[u8], order: &[usize], extra: u16, from: Spot) -> u32
+pub(crate) fn sum_blocks(dir: &[u8], order: &[usize], extra: u16, from: Spot) -> u32
     requires { ⌜ On-way extra (now dir) (now order) from ⌝ }
     ensures sum { λ r. ⌜ r ≡ blocks-in (left extra (now (dir .entry)) (now (order .entry)) from) ⌝ }
     ensures bound { λ r. ⌜ r ≤ 65535 * length (left extra (now (dir .entry)) (now (order .entry)) from) ⌝ }
@@ -101,7 +101,7 @@ fn well_named(entry: Placed) -> bool
 }
 
 // Whether the name words of all files are below 64,000.
-pub fn all_well_named(dir: &[u8], order: &[usize], extra: u16, from: Spot) -> bool
+pub(crate) fn all_well_named(dir: &[u8], order: &[usize], extra: u16, from: Spot) -> bool
     requires { ⌜ On-way extra (now dir) (now order) from ⌝ }
     ensures { λ r. ⌜ r ≡ all-well-named (left extra (now (dir .entry)) (now (order .entry)) from) ⌝ }
 {
@@ -124,7 +124,7 @@ fn is_alone(dir: &[u8], order: &[usize], extra: u16, from: Spot, entry: Placed) 
 }
 
 // Whether no two files have one name.
-pub fn all_apart(dir: &[u8], order: &[usize], extra: u16, from: Spot) -> bool
+pub(crate) fn all_apart(dir: &[u8], order: &[usize], extra: u16, from: Spot) -> bool
     requires { ⌜ On-way extra (now dir) (now order) from ⌝ }
     ensures { λ r. ⌜ r ≡ all-apart (left extra (now (dir .entry)) (now (order .entry)) from) ⌝ }
 {

@@ -3,4 +3,5 @@ pub mod find;
 pub mod pending;
 pub mod placed;
 pub mod rules;
+pub mod sound;
 pub mod walk;

@@ -241,8 +241,8 @@ fn in_use(highest: u16, total: u16) -> bool
     1 <= highest && highest <= total
 }
 
-// The segments of a chain.
-fn in_order(chain: &Chain) -> &[usize]
+// The segments of a chain. For our other crates: the chain was found in a directory.
+pub fn in_order(chain: &Chain) -> &[usize]
     requires { ⌜ now chain .count ≤ 31 ⌝ }
     ensures { λ r. ⌜ now r ≡ order-of (now (chain .entry)) ⌝ }
 {

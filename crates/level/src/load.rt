@@ -48,7 +48,7 @@ pub fn load<D: Device>(d: &D, work: &mut [u8]) -> Result<usize, FileFault>
     ensures answer { λ r. ⌜ r ≡ load-answer (length (now (work .entry))) (shows (D·Device .held (now (d .entry)))) ⌝ }
     ensures bytes { λ r. ⌜ made r (λ s. take (1024 * s) (now (work .exit)) ≡ directory (shows (D·Device .held (now (d .entry)))) s) ⌝ }
     ensures good { λ r. ⌜ made r (λ s. All-good (shows (D·Device .held (now (d .entry)))) 6 (6 + 2 * s)) ⌝ }
-    ensures range { λ r. ⌜ made r (λ s. (1 ≤ s) × (s ≤ 31) × (32768 ≤ length (now (work .entry)))) ⌝ }
+    ensures range { λ r. ⌜ made r (λ s. (1 ≤ s) × (s ≤ 31) × (32768 ≤ length (now (work .entry))) × (word-at (now (work .exit)) 0 ≡ s)) ⌝ }
 {
     if work.len() < 32_768 {
         return Err(FileFault::WorkspaceTooSmall);

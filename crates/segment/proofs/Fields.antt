@@ -4,7 +4,7 @@ use mathlib.Core.List.{List}
 use Prim.Native.Nat.{ℕ, _+_, _-_}
 use native.Mathlib.Omega.{arith}
 use native.Mathlib.Nat.{add-assoc, add-zero}
-use lib.ListN.{length, take, drop}
+use lib.ListN.{take, drop}
 use Rattle.std.specs.declared.option.Option.{Option}
 use Rattle.std.specs.declared.option.Option.the-variants.{Some, None}
 use Rattle.std.specs.Options.{mapped}
@@ -49,7 +49,13 @@ unfolding entry-as
 fields-by x bs None e s h = absurd (let z : _≡_ {A = ℕ} 0 1 = cc in omega arith)
 fields-by x bs (Some s) e p h =
     let q : entry-as x bs s ≡ e = cc in
-    record { status = p ∙ ap (λ (z : Entry). Some (z .status)) q; name = ap (λ (z : Entry). z .name) q; length = ap (λ (z : Entry). z .length) q; job = ap (λ (z : Entry). z .job) q; date = ap (λ (z : Entry). z .date) q }
+    record {
+      status = p ∙ ap (λ (z : Entry). Some (z .status)) q;
+      name = ap (λ (z : Entry). z .name) q;
+      length = ap (λ (z : Entry). z .length) q;
+      job = ap (λ (z : Entry). z .job) q;
+      date = ap (λ (z : Entry). z .date) q;
+    }
 
 pub fields : (x : ℕ) (bs : List ℕ) (e : Entry) → entry-of x bs ≡ Some e → Fields bs e
 fields x bs e h = fields-by x bs (status-in bs) e refl h

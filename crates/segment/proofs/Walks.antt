@@ -2,21 +2,20 @@
 use mathlib.Core.Path.{_≡_, refl, sym, ap, _∙_}
 use mathlib.Core.Bool.{Bool, true, false, cond}
 use mathlib.Core.List.{List, [], _∷_}
-use Prim.Native.Nat.{ℕ, zero, suc, _+_, _-_, _*_, _/_, _≤_, _<_}
+use Prim.Native.Nat.{ℕ, zero, suc, _+_, _-_, _*_, _≤_, _<_}
 use native.Mathlib.Omega.{arith}
-use native.Mathlib.Nat.{sub-zero, add-mul, one-mul, zero-mul, div-mul-le-self}
+use native.Mathlib.Nat.{sub-zero, add-mul, one-mul, zero-mul}
 use lib.Dec.{eqb}
 use lib.ListN.{length, getD, drop}
 use Rattle.std.specs.declared.option.Option.{Option}
 use Rattle.std.specs.declared.option.Option.the-variants.{Some, None}
-use Rattle.std.specs.Options.{mapped}
-use Rattle.std.proofs.shelf.Bits.{mul-le}
+use Rattle.std.specs.Options.{mapped, valueOr}
 use Rattle.std.proofs.shelf.Lists.{drop-drop, drop-more}
 use Rattle.std.proofs.shelf.Tests.{eq-eqb, ne-eqb, eqb-false}
 use Rattle.codec.specs.Words.{word-at}
 use Rattle.volume.specs.declared.entry.Entry.{Entry}
 use Rattle.volume.specs.Segments.{capacity-of}
-use Rattle.volume.proofs.Encoding.{no-entry}
+use Rattle.volume.proofs.Encoding.{no-entry, room-all}
 use Rattle.segment.specs.Entries.{entry-of}
 use Rattle.segment.specs.Segments.{entry-start, before, entries-in, segment-entries}
 use Rattle.segment.proofs.Fields.{Fields, fields}
@@ -86,10 +85,10 @@ few-entries n x bs (e ∷ es) h =
     let f = front n x bs e es h in
     omega (arith, f .some, few-entries (n - 1) x (drop (14 + x) bs) es (f .rest))
 
--- what is counted, and what is not
-pub counted-some : (o : Option (List Entry)) (n : ℕ) → Some n ≡ mapped length o → (es : List Entry) × (o ≡ Some es) × (length es ≡ n)
+-- what was counted was read
+pub counted-some : (o : Option (List Entry)) (n : ℕ) → Some n ≡ mapped length o → (o ≡ Some (valueOr o [])) × (length (valueOr o []) ≡ n)
 counted-some None n h = absurd (let z : _≡_ {A = ℕ} 0 1 = cc in omega arith)
-counted-some (Some es) n h = (es, refl, cc)
+counted-some (Some es) n h = (refl, cc)
 
 pub counted-none : (o : Option (List Entry)) → None ≡ mapped length o → o ≡ None
 counted-none None h = refl
@@ -131,7 +130,7 @@ module _ (x : ℕ) (bs : List ℕ) (es : List Entry) (h : segment-entries x bs �
 -- ---- room
 
 pub room-for : (x i : ℕ) → i ≤ capacity-of x → entry-start x i ≤ 1022
-room-for x i h = omega (arith, mul-le i (14 + x) (1012 / (14 + x)) (14 + x) h (omega arith), div-mul-le-self 1012 (14 + x))
+room-for x i h = rw sub-zero at (room-all x i h)
 
 pub room-behind : (x i : ℕ) → i < capacity-of x → entry-start x i + (14 + x) ≤ 1022
 room-behind x i h = omega (arith, room-for x (i + 1) (omega arith), add-mul i 1 (14 + x), one-mul (14 + x))

@@ -78,5 +78,5 @@ returns g c =
           (k .answer);
       bytes = holds-list bs w _ all (omega arith);
       good = good-join bs 8 (2 * w) (readable-good bs 6 2 (h .answer)) (readable-good bs 8 (2 * w - 2) (k .answer)) (omega arith);
-      range = (least, most, omega arith);
+      range = (least, most, omega arith, segments-held bs (1024 * w) _ all (omega arith) ∙ sym is);
     }
