@@ -56,4 +56,4 @@ pub record On-way (x : ℕ) (dir ks : List ℕ) (s : Spot) : Type 0 where
 -- one step: the first of what is left, and the spot behind it
 abbrev pub Steps : ℕ → List ℕ → List ℕ → Spot → Option (Placed × Spot) → Type 0
 Steps x dir ks s None = left x dir ks s ≡ []
-Steps x dir ks s (Some (p, n)) = (left x dir ks s ≡ p ∷ left x dir ks n) × On-way x dir ks n
+Steps x dir ks s (Some (p, n)) = (left x dir ks s ≡ p ∷ left x dir ks n) × On-way x dir ks n × (p .start ≤ 200000000)

@@ -2,6 +2,7 @@
 ghost use mathlib.Core.Path.{_≡_};
 ghost use Prim.Native.Nat.{_+_, _*_, _≤_};
 ghost use lib.ListN.{length};
+ghost use Rattle.std.specs.Slices.{found};
 ghost use Rattle.directory.specs.Walks.{left, On-way};
 ghost use Rattle.directory.specs.Finds.{is-file, is-tentative, same-name, is-named, first-named, tentatives, blocks-in, well-named, all-well-named, alone, all-apart};
 use crate::placed::Placed;
@@ -50,7 +51,8 @@ fn is_named(name: Name, entry: Placed) -> bool
 // lawful.
 pub fn find_from(dir: &[u8], order: &[usize], extra: u16, from: Spot, name: Name) -> Option<Placed>
     requires { ⌜ On-way extra (now dir) (now order) from ⌝ }
-    ensures { λ r. ⌜ r ≡ first-named name (left extra (now (dir .entry)) (now (order .entry)) from) ⌝ }
+    ensures file { λ r. ⌜ r ≡ first-named name (left extra (now (dir .entry)) (now (order .entry)) from) ⌝ }
+    ensures start { λ r. ⌜ found r (λ p. p .start ≤ 200000000) ⌝ }
 {
     let mut spot = from;
     while let Some((entry, next)) = next_entry(dir, order, extra, spot) {

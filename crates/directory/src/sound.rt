@@ -2,6 +2,7 @@
 ghost use mathlib.Core.Path.{_≡_};
 ghost use Prim.Native.Nat.{_+_, _*_, _≤_};
 ghost use lib.ListN.{length};
+ghost use Rattle.std.specs.Slices.{found};
 ghost use Rattle.codec.specs.Words.{word-at};
 ghost use Rattle.segment.specs.Chains.{order-of};
 ghost use Rattle.segment.specs.Directories.{chain-of};
@@ -43,8 +44,15 @@ pub fn first_block(dir: &[u8]) -> u32
 // The file of a name.
 pub fn find_file(dir: &[u8], name: Name) -> Option<Placed>
     requires { ⌜ Sound-bytes (now dir) ⌝ }
-    ensures { λ r. ⌜ r ≡ file-of (now (dir .entry)) name ⌝ }
+    ensures file { λ r. ⌜ r ≡ file-of (now (dir .entry)) name ⌝ }
+    ensures start { λ r. ⌜ found r (λ p. p .start ≤ 200000000) ⌝ }
 {
     let chain = sound_chain(dir);
-    find_from(dir, in_order(&chain), word_at(dir, 6), first_spot(first_block(dir)), name)
+    find_from(
+        dir,
+        in_order(&chain),
+        word_at(dir, 6),
+        first_spot(first_block(dir)),
+        name,
+    )
 }

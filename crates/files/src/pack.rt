@@ -3,10 +3,14 @@ ghost use mathlib.Core.Path.{_≡_};
 ghost use lib.ListN.{length};
 ghost use Rattle.device.specs.Held.{shows};
 ghost use Rattle.volume.specs.Initial.{init-answer};
+ghost use Rattle.std.specs.declared.option.Option.the-variants.{None};
+ghost use Rattle.level.specs.Lookups.{lookup-answer, read-fetched, read-answer, read-buffer};
 ghost use Rattle.files.specs.States.{state-of, new-state, deepest, initialized};
 use device::Device;
 use layers::levels::Levels;
 use layers::levels::LevelsDevice;
+use level::lookup::lookup;
+use level::lookup::read_file;
 use volume::fault::FileFault;
 use volume::initial::initialize;
 
@@ -41,5 +45,26 @@ impl<D: Device> Pack<D> {
         ensures fixed { λ _. ⌜ D·Device .fixed (now (self .exit) .levels .below) ≡ D·Device .fixed (now (self .entry) .levels .below) ⌝ }
     {
         initialize(&mut self.levels, segments)
+    }
+
+    // LOOKUP on the deepest level: start, length and date word of a file.
+    pub fn lookup(&self, work: &mut [u8], name: &[u8; 9]) -> Result<(u32, u16, u16), FileFault>
+        ensures { λ r. ⌜ r ≡ lookup-answer (length (now (work .entry))) (deepest (state-of (D·Device .held) (now (self .entry)))) None (now (name .entry)) ⌝ }
+    {
+        lookup(&self.levels, work, None, name)
+    }
+
+    // READ on the deepest level: one block of a file.
+    pub fn read(
+        &self,
+        work: &mut [u8],
+        name: &[u8; 9],
+        block: u16,
+        into: &mut [u8; 512],
+    ) -> Result<(), FileFault>
+        ensures answer { λ r. ⌜ r ≡ read-answer (read-fetched (length (now (work .entry))) (deepest (state-of (D·Device .held) (now (self .entry)))) None (now (name .entry)) block) ⌝ }
+        ensures buffer { λ _. ⌜ now (into .exit) ≡ read-buffer (read-fetched (length (now (work .entry))) (deepest (state-of (D·Device .held) (now (self .entry)))) None (now (name .entry)) block) (now (into .entry)) ⌝ }
+    {
+        read_file(&self.levels, work, None, name, block, into)
     }
 }

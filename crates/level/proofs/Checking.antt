@@ -23,7 +23,7 @@ unfolding check-answer
 check-refused n bs o e q = ap (checked bs o) q
 
 pub check-rule : (n : ℕ) (bs : List Block) (o : Option Pending) (s v r : ℕ) (dir : List ℕ) → Ok s ≡ load-answer n bs → dir ≡ directory bs s → v ≡ level-size bs
-  → r ≡ broken-rule dir v o → judged s r ≡ check-answer n bs o
+    → r ≡ broken-rule dir v o → judged s r ≡ check-answer n bs o
 unfolding check-answer
 check-rule n bs o s v r dir q d e p =
     ap (judged s) (p ∙ ap (λ (z : List ℕ). broken-rule z v o) d ∙ ap (λ (z : ℕ). broken-rule (directory bs s) z o) e) ∙ ap (checked bs o) q
@@ -48,5 +48,5 @@ module _ (dir work : List ℕ) (s : ℕ) (e : dir ≡ take (1024 * s) work) (h�
         sound = b;
         few = omega (arith, part-total);
         long = omega (arith, part-total, part-long);
-        some = omega (arith, part-long)
+        some = omega (arith, part-long);
       })

@@ -1,3 +1,4 @@
 pub mod Fetching
 pub mod Loading
 pub mod Checking
+pub mod Looking

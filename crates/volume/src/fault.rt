@@ -1,7 +1,7 @@
 // Why a call on a volume is refused.
 ghost use mathlib.Core.Path.{_≡_};
 ghost use Rattle.volume.specs.Faults.{file-number, file-detail};
-ghost use Rattle.volume.specs.declared.fault.FileFault.the-variants.{OfDevice};
+ghost use Rattle.volume.specs.declared.fault.FileFault.the-variants.{OfDevice, UnlawfulName};
 use device::fault::DeviceFault;
 use device::fault::DeviceFaultDebug;
 use device::fault::DeviceFaultPartialEq;
@@ -84,5 +84,13 @@ pub impl From<DeviceFault> for FileFault as FileFromDevice {
 
     fn from(e: DeviceFault) -> FileFault {
         FileFault::OfDevice(e)
+    }
+}
+
+pub impl From<codec::name::UnlawfulName> for FileFault as FileFromName {
+    ghost converts = { λ e r. r ≡ UnlawfulName };
+
+    fn from(_e: codec::name::UnlawfulName) -> FileFault {
+        FileFault::UnlawfulName
     }
 }

@@ -17,7 +17,11 @@ loop-entry-again c =
     (c .in-Some .ensures tt .1, sym (find.not-named (c .args .name) _ (c .in-Some .ensures tt .0) (sym (c .if-is-named .ensures tt))) ∙ c .loop-entry .inv .1)
 
 pub returns-then-is-named : need.returns-then-is-named
-returns-then-is-named c = sym (find.named (c .args .name) _ (c .in-Some .ensures tt .0) (sym (c .if-is-named .ensures tt))) ∙ c .loop-entry .inv .1
+returns-then-is-named c =
+    record {
+      file = sym (find.named (c .args .name) _ (c .in-Some .ensures tt .0) (sym (c .if-is-named .ensures tt))) ∙ c .loop-entry .inv .1;
+      start = c .in-Some .ensures tt .2;
+    }
 
 pub returns : need.returns
-returns c = sym (find.named-none (c .args .name) _ (c .in-rest .ensures tt)) ∙ c .loop-entry .inv .1
+returns c = record { file = sym (find.named-none (c .args .name) _ (c .in-rest .ensures tt)) ∙ c .loop-entry .inv .1; start = tt }

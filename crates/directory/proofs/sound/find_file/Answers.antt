@@ -31,7 +31,11 @@ find-from-requires c κs =
 pub returns : need.returns
 unfolding file-of
 returns c =
-    c .find-from .ensures
-    ∙ ap (first-named (c .args .name))
-      (all (c .args .dir .now) (c .word-at .result) (c .in-order .result .now) (c .first-spot .result) (c .word-at .ensures) (c .first-block .result) (c .first-spot .ensures) (c .first-block .ensures)
-      (c .in-order .ensures ∙ c .sound-chain-chain .ensures .order))
+    record {
+      start = c .find-from .ensures .start;
+      file =
+          c .find-from .ensures .file
+          ∙ ap (first-named (c .args .name))
+          (all (c .args .dir .now) (c .word-at .result) (c .in-order .result .now) (c .first-spot .result) (c .word-at .ensures) (c .first-block .result) (c .first-spot .ensures) (c .first-block .ensures)
+          (c .in-order .ensures ∙ c .sound-chain-chain .ensures .order));
+    }

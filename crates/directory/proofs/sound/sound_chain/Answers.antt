@@ -22,13 +22,13 @@ returns-in-Some c =
     let ks : List ℕ = order-of (c .in-Some .chain) in
     let e = c .word-at .ensures in
     let q : Some ks ≡ chain-from (word-at dir 4) (word-at dir 4) (next-of dir) 1
-      = c .in-Some .ensures tt .order ∙ ap (λ (z : ℕ). chain-from z z (next-of dir) 1) e in
+    = c .in-Some .ensures tt .order ∙ ap (λ (z : ℕ). chain-from z z (next-of dir) 1) e in
     let i = c .in-Some .ensures tt .inside in
     let few : c .in-Some .chain .count ≤ 31 = omega (arith, i .0, e, highest dir (c .pre), c .pre .few) in
     record {
       order = chain-is dir (c .pre) ks q;
       count = few;
-      way = on-chain dir (c .pre) ks q (subst (λ (z : ℕ). All (λ k. (1 ≤ k) × (k ≤ z)) ks) e (i .1)) (omega (arith, few, few-taken (c .in-Some .chain .count) (c .in-Some .chain .order)))
+      way = on-chain dir (c .pre) ks q (subst (λ (z : ℕ). All (λ k. (1 ≤ k) × (k ≤ z)) ks) e (i .1)) (omega (arith, few, few-taken (c .in-Some .chain .count) (c .in-Some .chain .order)));
     }
 
 pub returns-in-None : need.returns-in-None

@@ -53,7 +53,7 @@ returns-then-word-at-ne-END c =
     (c .name-at .ensures ∙ ap (λ (z : List ℕ). name-in (drop (c .entry-start-at .result) z)) b)
     (c .length-at-length .ensures ∙ ap (λ (z : List ℕ). length-in (drop (c .entry-start-at .result) z)) b)
     (c .date-at .ensures ∙ ap (λ (z : List ℕ). date-in (drop (c .entry-start-at .result) z)) b) (omega (arith, c .length-at-length .ok)) in
-    (sym (c .loop-place .inv .1) ∙ r .0, r .1)
+    (sym (c .loop-place .inv .1) ∙ r .0, r .1, omega (arith, c .pre .bound))
 
 pub loop-place-again : need.loop-place-again
 loop-place-again c =

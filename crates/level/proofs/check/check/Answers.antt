@@ -39,7 +39,7 @@ returns-in-0 g c =
       bytes = h .bytes;
       sound = part-sound _ (c .load .last .work) (c .in-Continue-total .total) (c .directory-of .ensures) (h .range .0) (h .range .1) long (h .range .3) (c .level-size .result) (c .args .output) (sym (c .broken-rule .ensures) ∙ c .in-0 .is);
       good = h .good;
-      range = (h .range .0, h .range .1, h .range .2)
+      range = (h .range .0, h .range .1, h .range .2);
     }
 
 pub returns-in-rest : need.returns-in-rest
@@ -55,5 +55,5 @@ returns-in-rest g c =
       bytes = tt;
       sound = tt;
       good = tt;
-      range = tt
+      range = tt;
     }
