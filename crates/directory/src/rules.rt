@@ -249,7 +249,7 @@ pub fn in_order(chain: &Chain) -> &[usize]
     &chain.order[0..chain.count]
 }
 
-// The first broken rule of 3 to 9, or 0. For our other crates: the caller has loaded the directory, and so tested rules 1 and 2.
+// The first broken rule of 3 to 9, or 0. For our other crates: the caller has loaded the directory, and so checked rules 1 and 2.
 pub fn broken_rule(dir: &[u8], blocks: u16, output: Option<Pending>) -> u8
     requires { ⌜ 1024 ≤ length (now dir) ⌝ ∗ ⌜ word-at (now dir) 0 ≤ 31 ⌝ ∗ ⌜ 1024 * word-at (now dir) 0 ≤ length (now dir) ⌝ }
     ensures { λ r. ⌜ r ≡ broken-rule (now (dir .entry)) blocks output ⌝ }

@@ -43,7 +43,7 @@ fn read_blocks<D: Device>(d: &D, from: u32, to: u32, work: &mut [u8]) -> Result<
 }
 
 // Reads the directory of a level into the workspace, and tells how many segments it has. Rules 1 and 2 of a sound level are
-// tested on the way.
+// checked on the way.
 pub fn load<D: Device>(d: &D, work: &mut [u8]) -> Result<usize, FileFault>
     ensures answer { λ r. ⌜ r ≡ load-answer (length (now (work .entry))) (shows (D·Device .held (now (d .entry)))) ⌝ }
     ensures bytes { λ r. ⌜ made r (λ s. take (1024 * s) (now (work .exit)) ≡ directory (shows (D·Device .held (now (d .entry)))) s) ⌝ }
