@@ -1,1 +1,2 @@
 pub mod Lowered
+pub mod Listing

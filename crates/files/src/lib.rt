@@ -1,2 +1,3 @@
 // A pack: a device with its mounted containers, and the calls on its deepest level.
+mod list;
 pub mod pack;

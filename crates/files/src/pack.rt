@@ -1,11 +1,15 @@
 // A pack and the calls on it.
 ghost use mathlib.Core.Path.{_≡_};
+ghost use Prim.Native.Nat.{_≤_};
 ghost use lib.ListN.{length};
+ghost use Rattle.std.specs.Vec.{made};
 ghost use Rattle.device.specs.Held.{shows};
 ghost use Rattle.volume.specs.Initial.{init-answer};
 ghost use Rattle.std.specs.declared.option.Option.the-variants.{None};
 ghost use Rattle.level.specs.Lookups.{lookup-answer, read-fetched, read-answer, read-buffer};
+ghost use Rattle.files.specs.Directories.{level-listing, directory-answer, directory-after};
 ghost use Rattle.files.specs.States.{state-of, new-state, deepest, initialized};
+use crate::list::list_level;
 use device::Device;
 use layers::levels::Levels;
 use layers::levels::LevelsDevice;
@@ -66,5 +70,14 @@ impl<D: Device> Pack<D> {
         ensures buffer { λ _. ⌜ now (into .exit) ≡ read-buffer (read-fetched (length (now (work .entry))) (deepest (state-of (D·Device .held) (now (self .entry)))) None (now (name .entry)) block) (now (into .entry)) ⌝ }
     {
         read_file(&self.levels, work, None, name, block, into)
+    }
+
+    // DIRECTORY: the listing of the deepest level in the caller's buffer, and its length.
+    pub fn directory(&self, work: &mut [u8], listing: &mut [u8]) -> Result<usize, FileFault>
+        ensures answer { λ r. ⌜ r ≡ directory-answer (level-listing (length (now (work .entry))) (deepest (state-of (D·Device .held) (now (self .entry)))) None) (length (now (listing .entry))) ⌝ }
+        ensures listing { λ _. ⌜ now (listing .exit) ≡ directory-after (level-listing (length (now (work .entry))) (deepest (state-of (D·Device .held) (now (self .entry)))) None) (now (listing .entry)) ⌝ }
+        ensures fits { λ r. ⌜ made r (λ n. n ≤ length (now (listing .exit))) ⌝ }
+    {
+        list_level(&self.levels, work, listing)
     }
 }

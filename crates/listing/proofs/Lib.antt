@@ -1,0 +1,5 @@
+pub mod Spelled
+pub mod Pieces
+pub mod Lengths
+pub mod Counted
+pub mod Placing

@@ -1,0 +1,4 @@
+pub mod Listings
+pub mod Columns
+pub mod Adding
+pub mod Rows
