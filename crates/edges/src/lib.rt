@@ -7,6 +7,8 @@ mod devices;
 #[cfg(test)]
 mod floppies;
 #[cfg(test)]
+mod lookups;
+#[cfg(test)]
 mod memory;
 #[cfg(test)]
 mod mounts;

@@ -1,14 +1,13 @@
 -- A file's line has 30 bytes.
-use mathlib.Core.Path.{_≡_, refl, sym, ap, _∙_}
+use mathlib.Core.Path.{_≡_, refl, sym, ap}
 use mathlib.Core.Bool.{Bool, true, false, cond}
-use mathlib.Core.List.{List, [], _∷_, _++_}
-use Prim.Native.Nat.{ℕ, _+_, _<_}
+use mathlib.Core.List.{List}
+use Prim.Native.Nat.{ℕ, _<_}
 use native.Mathlib.Omega.{arith}
 use lib.ListN.{length}
 use Rattle.std.proofs.shelf.Lists.{length-append}
 use Rattle.std.specs.declared.option.Option.{Option}
 use Rattle.std.specs.declared.option.Option.the-variants.{Some, None}
-use Rattle.codec.specs.declared.date.Date.{Date}
 use Rattle.codec.specs.declared.date.Dating.{Dating}
 use Rattle.codec.specs.declared.date.Dating.the-variants.{Undated, On}
 use Rattle.codec.specs.declared.name.Name.{Name}

@@ -1,4 +1,3 @@
-use mathlib.Core.Path.{_∙_}
 use native.Mathlib.Omega.{arith}
 use Rattle.listing.proofs.Spelled.{in-columns}
 use Rattle.listing.proofs.digits.right_in_five.Needs as need

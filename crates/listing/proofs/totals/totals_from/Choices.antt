@@ -1,9 +1,5 @@
-use mathlib.Core.Path.{_≡_}
-use Prim.Native.Nat.{_+_, _*_, _≤_}
 use lib.ListN.{length}
 use Rattle.directory.specs.Walks.{left, On-way}
-use Rattle.directory.specs.Finds.{blocks-in}
-use Rattle.listing.specs.Listings.{files-in, empties-in, file-lines}
 use Rattle.listing.proofs.Counted.{Adds}
 use Rattle.listing.proofs.totals.totals_from.Given as given
 
