@@ -1,5 +1,6 @@
 // Directories that are sound, that break one rule of a sound level, or several. The comment of each case says what the check
-// must tell and why: 00 where the level is sound, 05 with the rule that is broken, or 02 with the bad block.
+// must tell and why: 00 where the level is sound, 05 with the rule that is broken, 02 with the bad block, or 18
+// where the workspace is too small.
 use crate::patches::*;
 use crate::volumes::Volume;
 use crate::volumes::Volume::*;
@@ -1210,6 +1211,21 @@ pub fn several() -> &'static [Case] {
                 Patch(1, THIRD + NAME_2, 25_600),
             ],
         ),
+    ];
+    CASES
+}
+
+// A workspace of 32,767 bytes, one too few, which comes before all else.
+pub fn small_workspace() -> &'static [Case] {
+    const CASES: &[Case] = &[
+        // 18 0: The volume is sound.
+        Case("workspace 32,767", USUAL, &[]),
+        // 18 0: Before rule 1.
+        Case("workspace 32,767, 8 blocks", Disk(System(0), 8, &[]), &[]),
+        // 18 0: Before block 6 is read.
+        Case("workspace 32,767, 6 bad", Disk(System(0), 100, &[6]), &[]),
+        // 18 0: Before rule 2.
+        Case("workspace 32,767, 0 segments", USUAL, &[Patch(1, TOTAL, 0)]),
     ];
     CASES
 }

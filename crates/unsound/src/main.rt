@@ -135,6 +135,7 @@ fn try_searches(rt: &LibcRuntime) -> io::Result<()> {
 fn main(rt: LibcRuntime) -> io::Result<()> {
     let mut work = vec![in rt.alloc(); 0u8; WORKSPACE]?;
     let work = work.as_mut_slice();
+    let mut small = vec![in rt.alloc(); 0u8; WORKSPACE - 1]?;
     try_cases(&rt, cases::sound(), work)?;
     try_cases(&rt, cases::sizes(), work)?;
     try_cases(&rt, cases::totals(), work)?;
@@ -147,6 +148,7 @@ fn main(rt: LibcRuntime) -> io::Result<()> {
     try_cases(&rt, cases::name_words(), work)?;
     try_cases(&rt, cases::names(), work)?;
     try_cases(&rt, cases::several(), work)?;
+    try_cases(&rt, cases::small_workspace(), small.as_mut_slice())?;
     try_outputs(&rt, work)?;
     try_searches(&rt)
 }
