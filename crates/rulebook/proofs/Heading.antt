@@ -1,8 +1,8 @@
--- Rules 3, 5 and 7: header words, segment by segment.
+-- Rules 1 and 2, and rules 3, 5 and 7: header words, segment by segment.
 use mathlib.Core.Path.{_≡_, refl, sym, _∙_}
 use mathlib.Core.Bool.{_&&_}
 use mathlib.Core.List.{List, [], _∷_}
-use Prim.Native.Nat.{ℕ, zero, suc, _+_, _%_, _<_}
+use Prim.Native.Nat.{ℕ, zero, suc, _+_, _*_, _%_, _<_}
 use native.Mathlib.Omega.{arith}
 use lib.Dec.{leb, eqb}
 use lib.ListN.{length, getD, take}
@@ -12,8 +12,19 @@ use Rattle.segment.specs.Chains.{segment-at}
 use Rattle.segment.specs.Directories.{entries-at}
 use Rattle.directory.specs.Walks.{blocks-of}
 use Rattle.directory.specs.Rules.{every, same-extra, contiguous-from}
-use Rattle.rulebook.specs.Headers.{blocks-along, Contiguous, Rule-three, Rule-five, Rule-seven}
+use Rattle.rulebook.specs.Headers.{blocks-along, Contiguous, Rule-one, Rule-two, Rule-three, Rule-five, Rule-seven}
 use Rattle.rulebook.proofs.Deciding.{decides-leb}
+
+pub rule-one : Rule-one
+rule-one v = decides-leb 9 v
+
+pub rule-two : Rule-two
+rule-two s v =
+    let a = leb 1 s in
+    let b = leb s 31 in
+    let c = leb (7 + 2 * s) v in
+    decides-like (a && (b && c)) (λ h. (h .0, h .1 .0, h .1 .1)) (λ h. (h .0, (h .1, h .2)))
+    (decides-and a (b && c) (decides-leb 1 s) (decides-and b c (decides-leb s 31) (decides-leb (7 + 2 * s) v)))
 
 pub rule-three : Rule-three
 rule-three h s = decides-and (leb 1 h) (leb h s) (decides-leb 1 h) (decides-leb h s)

@@ -1,5 +1,19 @@
-// The header words of segments.
-ghost use Rattle.rulebook.specs.Headers.{Rule-three, Rule-five, Rule-seven};
+// The size of a level and the header words of segments.
+ghost use Rattle.rulebook.specs.Headers.{Rule-one, Rule-two, Rule-three, Rule-five, Rule-seven};
+
+// Rule 1 holds exactly where the blocks of the level are found to be 9 or more.
+pub fn rule_one() -> u8
+    ensures { λ _. ⌜ Rule-one ⌝ }
+{
+    0
+}
+
+// Rule 2 holds exactly where the directory is found to fit the level.
+pub fn rule_two() -> u8
+    ensures { λ _. ⌜ Rule-two ⌝ }
+{
+    0
+}
 
 // Rule 3 holds exactly where the segments in use are found to be from 1 to all.
 pub fn rule_three() -> u8
