@@ -1,30 +1,26 @@
 -- DELETE, RENAME, PROTECT and UNPROTECT, by what the program finds.
-use Rattle.std.proofs.Common.{◌≡◌, ℕ, ◌+◌, ◌*◌, ◌<◌, ◌≤◌, Bool, true, false, cond, List, [], ◌∷◌, ◌++◌, map, length, get_or, take, Ok, Err, Option, Result, sym, refl, ap, ◌∙◌, subst, arith}
+use Rattle.std.proofs.Common.{◌≡◌, ℕ, ◌+◌, ◌*◌, ◌<◌, ◌≤◌, true, false, List, [], ◌∷◌, map, length, get_or, take, Ok, Err, Option, Result, sym, ap, ◌∙◌, subst, arith}
 use Rattle.codec.specs.declared.name.Name.{Name}
 use Rattle.device.specs.Blocks.{Block, Whole}
 use Rattle.device.specs.Stacks.{Stack, shown, Became}
 use Rattle.device.proofs.Steps.{became_none}
-use Rattle.volume.specs.declared.entry.Entry.{Entry}
 use Rattle.volume.specs.declared.fault.FileFault.{FileFault}
 use Rattle.volume.specs.declared.fault.FileFault.TheVariants as fault
 use Rattle.volume.specs.Transfers.{overwritten, halves, AllGood}
 use Rattle.segment.specs.Chains.{segment_at}
-use Rattle.segment.specs.Directories.{Segment, Directory, chain_of}
+use Rattle.segment.specs.Directories.{chain_of}
 use Rattle.directory.specs.declared.pending.Pending.{Pending}
-use Rattle.edits.specs.Entries.{is_named, is_protected}
-use Rattle.edits.specs.Directories.{place_entries, Lawful}
+use Rattle.edits.specs.Entries.{is_named}
 use Rattle.edits.specs.Asks.{Place, places}
-use Rattle.edits.specs.Edits.{altered, spliced, emptied, holding, delete}
+use Rattle.edits.specs.Edits.{altered, emptied, holding, delete}
 use Rattle.edits.specs.Laws.{Stands}
 use Rattle.edits.specs.Values.{value_of}
 use Rattle.edits.proofs.Told.{genuine, delete-none, delete-guarded, delete_done}
 use Rattle.carry.specs.Laws.{outputs}
-use Rattle.carry.specs.Writes.{Suits}
 use Rattle.carry.proofs.Altered.{here}
 use Rattle.changes.specs.Segments.{EntryIn, with_entries}
 use Rattle.changes.proofs.Imaged.{entry_in}
 use Rattle.places.specs.declared.place.FilePlace.{FilePlace}
-use Rattle.places.specs.Places.{file_at}
 use Rattle.calls.specs.Loaded.{Loaded}
 use Rattle.calls.specs.Plans.{Change, changed_blocks, plan_answer, plan_blocks, with_places, file_places, delete_change}
 use Rattle.calls.proofs.Loading.{carries, lawful, small_level, few, long}

@@ -1,5 +1,5 @@
 -- The file of a name, by its place.
-use Rattle.std.proofs.Common.{◌≡◌, ℕ, ◌<◌, Bool, true, false, cond, List, [], ◌∷◌, length, Some, None, Option, sym, refl, ap, ◌∙◌, subst, arith}
+use Rattle.std.proofs.Common.{◌≡◌, ℕ, List, [], ◌∷◌, Some, None, refl, arith}
 use Rattle.std.specs.Option.{option_map}
 use Rattle.codec.specs.declared.name.Name.{Name}
 use Rattle.edits.specs.Entries.{is_named}

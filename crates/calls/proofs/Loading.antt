@@ -1,5 +1,5 @@
 -- What is known of a level that was found sound.
-use Rattle.std.proofs.Common.{◌≡◌, ℕ, ◌+◌, ◌-◌, ◌*◌, ◌<◌, ◌≤◌, min, Bool, true, false, cond, eqb, leb, List, length, take, Ok, Err, Option, Result, sym, refl, ap, ◌∙◌, subst, arith}
+use Rattle.std.proofs.Common.{◌≡◌, ℕ, ◌+◌, ◌-◌, ◌*◌, ◌≤◌, Bool, true, false, cond, eqb, leb, List, length, Ok, Err, Option, Result, sym, refl, ap, ◌∙◌, subst, arith}
 use Rattle.std.proofs.lemmas.Bool.{eqb-true, leb-true, and_parts}
 use Rattle.device.specs.declared.fault.DeviceFault.{DeviceFault}
 use Rattle.device.specs.Blocks.{Block}
@@ -10,7 +10,6 @@ use Rattle.volume.specs.declared.fault.FileFault.TheVariants.{OfDevice, NotSound
 use Rattle.volume.specs.Faults.{after}
 use Rattle.volume.specs.Levels.{level_size, segments_fit}
 use Rattle.volume.specs.Transfers.{readable, AllGood}
-use Rattle.segment.specs.Directories.{Directory}
 use Rattle.directory.specs.declared.pending.Pending.{Pending}
 use Rattle.directory.specs.Rules.{broken_rule}
 use Rattle.directory.specs.Sounds.{SoundBytes}
@@ -19,7 +18,7 @@ use Rattle.edits.specs.Values.{value_of}
 use Rattle.carry.specs.Carries.{Carries}
 use Rattle.carry.specs.Laws.{outputs, StandsOpen}
 use Rattle.carry.proofs.Sound.{sound_carries, sound_is_lawful}
-use Rattle.level.specs.Loads.{directory_byte, directory, segments, rest_loaded, loaded, load_answer}
+use Rattle.level.specs.Loads.{directory, segments, loaded, load_answer}
 use Rattle.level.specs.Checks.{judged, checked, check_answer}
 use Rattle.store.proofs.Stored.{length-directory, directory_at}
 use Rattle.calls.specs.Loaded.{Loaded}

@@ -1,35 +1,32 @@
 -- One changed segment, written to the level.
-use Rattle.std.proofs.Common.{◌≡◌, ℕ, ◌+◌, ◌*◌, ◌<◌, ◌≤◌, Bool, true, false, cond, List, [], ◌∷◌, length, get_or, Option, sym, refl, ap, ◌∙◌, subst, inl, arith}
-use Rattle.std.specs.List.{AllByRecursion as All}
+use Rattle.std.proofs.Common.{◌≡◌, ℕ, ◌+◌, ◌*◌, ◌<◌, ◌≤◌, List, [], ◌∷◌, length, get_or, Option, sym, refl, ap, ◌∙◌, inl, arith}
 use Rattle.device.specs.Blocks.{Block}
-use Rattle.device.specs.Stacks.{Stack, shown, Became}
 use Rattle.volume.specs.declared.entry.Entry.{Entry}
 use Rattle.volume.specs.Transfers.{overwritten, halves, AllGood}
 use Rattle.segment.specs.Chains.{segment_at}
-use Rattle.segment.specs.Directories.{Segment, Directory, chain_of}
+use Rattle.segment.specs.Directories.{Directory, chain_of}
 use Rattle.directory.specs.declared.pending.Pending.{Pending}
-use Rattle.edits.specs.Directories.{first_block, place_entries, Lawful}
+use Rattle.edits.specs.Directories.{first_block, place_entries}
 use Rattle.edits.specs.Edits.{altered, holding}
-use Rattle.edits.specs.Laid.{Laid, laid}
+use Rattle.edits.specs.Laid.{laid}
 use Rattle.edits.specs.Values.{value_of}
-use Rattle.carry.specs.Carries.{Member, Carries, image, imaged}
-use Rattle.carry.specs.Writes.{Fits, no_segment, at_places, Suits}
-use Rattle.carry.specs.Laws.{outputs}
+use Rattle.carry.specs.Carries.{Member, image, imaged}
+use Rattle.carry.specs.Writes.{no_segment, at_places, Suits}
 use Rattle.carry.proofs.Writes.{imaged-here}
-use Rattle.carry.proofs.Altered.{here, edited, written_one, there, fits, length-laid}
+use Rattle.carry.proofs.Altered.{here, edited, written_one, fits, length-laid}
 use Rattle.changes.specs.Segments.{with_entries}
 use Rattle.changes.proofs.Imaged.{with_entries_is, number_there}
 use Rattle.store.specs.Stores.{rewritten}
 use Rattle.calls.specs.Loaded.{Loaded}
-use Rattle.calls.specs.Plans.{Change, changed_blocks}
-use Rattle.calls.proofs.Loading.{long, some, few, carries, lawful}
+use Rattle.calls.specs.Plans.{changed_blocks}
+use Rattle.calls.proofs.Loading.{long, carries, lawful}
 
 module _ (bs : List Block) (o : Option Pending) (dir : List ℕ) (l : Loaded bs o dir) (k : ℕ) (h : k < length (value_of dir).segments) where
   abbrev d : Directory
   d = value_of dir
 
   was : Member (value_of dir).extra dir (here k (laid (value_of dir)))
-  was = Rattle.std.proofs.lemmas.List.Elements.All-get_or (Member (value_of dir).extra dir) (laid (value_of dir)) k no_segment (omega (arith, h, length-laid (first_block (value_of dir)) (value_of dir).segments)) (carries bs o dir l).members
+  was = Rattle.std.proofs.ByRecursion.All-get_or (Member (value_of dir).extra dir) (laid (value_of dir)) k no_segment (omega (arith, h, length-laid (first_block (value_of dir)) (value_of dir).segments)) (carries bs o dir l).members
 
   -- the number of the segment
   pub number : (n : ℕ) → n ≡ get_or (chain_of dir) k 0 → n ≡ (here k (laid (value_of dir))).number

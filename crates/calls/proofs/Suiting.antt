@@ -1,22 +1,22 @@
 -- Entries that take the place of others in a segment.
-use Rattle.std.proofs.Common.{◌≡◌, ℕ, suc, ◌+◌, ◌*◌, ◌<◌, ◌≤◌, Bool, true, false, cond, List, [], ◌∷◌, ◌++◌, map, length, drop, Option, sym, refl, ap, ◌∙◌, subst, arith}
-use Rattle.std.specs.List.{AllByRecursion as All}
+use Rattle.std.proofs.Common.{◌≡◌, ℕ, suc, ◌+◌, ◌<◌, ◌≤◌, List, [], ◌∷◌, length, drop, Option, subst, arith}
+use Rattle.std.specs.List.{AllByRecursion}
 use Rattle.device.specs.Blocks.{Block}
 use Rattle.codec.specs.Words.{word_at}
 use Rattle.volume.specs.declared.entry.Entry.{Entry}
 use Rattle.volume.specs.Segments.{capacity_of}
 use Rattle.segment.specs.Entries.{LawfulEntry}
-use Rattle.segment.specs.Directories.{Segment, Directory, chain_of}
+use Rattle.segment.specs.Directories.{chain_of}
 use Rattle.directory.specs.declared.pending.Pending.{Pending}
 use Rattle.directory.specs.Walks.{blocks_of}
 use Rattle.edits.specs.Entries.{empty_of}
-use Rattle.edits.specs.Directories.{place_entries, Lawful}
+use Rattle.edits.specs.Directories.{place_entries}
 use Rattle.edits.specs.Edits.{spliced, emptied}
 use Rattle.edits.specs.Laid.{laid}
 use Rattle.edits.specs.Laws.{Stands}
-use Rattle.edits.specs.Values.{cleaned, values_of, value_of}
+use Rattle.edits.specs.Values.{value_of}
 use Rattle.edits.proofs.Counts.{blocks_nil, blocks_cons}
-use Rattle.edits.proofs.Edited.{Edit, edit_blocks, spliced_edit}
+use Rattle.edits.proofs.Edited.{edit_blocks, spliced_edit}
 use Rattle.edits.proofs.Emptied.{run, run_length, emptied_edit}
 use Rattle.edits.proofs.Kept.{edit_length}
 use Rattle.edits.proofs.Chained.{roomy_at}
@@ -29,7 +29,7 @@ use Rattle.changes.proofs.Clean.{Clean, clean_map, clean_values, clean_spliced, 
 use Rattle.calls.specs.Loaded.{Loaded}
 use Rattle.calls.proofs.Loading.{carries, lawful}
 
-clean_there : (dir : List ℕ) (k : ℕ) → All Clean (place_entries (value_of dir).segments k)
+clean_there : (dir : List ℕ) (k : ℕ) → AllByRecursion Clean (place_entries (value_of dir).segments k)
 unfolding value_of
 clean_there dir k = clean_values (word_at dir 6) dir (chain_of dir) k
 
@@ -46,11 +46,11 @@ module _ (bs : List Block) (o : Option Pending) (dir : List ℕ) (l : Loaded bs 
   small : word_at dir 6 ≤ 64
   small = omega (arith, (carries bs o dir l).extra, (lawful bs o dir l).shaped.small)
 
-  pub lawful_there : All (LawfulEntry (value_of dir).extra) (place_entries (value_of dir).segments k)
+  pub lawful_there : AllByRecursion (LawfulEntry (value_of dir).extra) (place_entries (value_of dir).segments k)
   lawful_there =
       let c = carries bs o dir l in
-      subst (λ (y : ℕ). All (LawfulEntry y) (place_entries (value_of dir).segments k)) c.extra
-      (subst (All (LawfulEntry (word_at dir 6))) (decoded_there dir (value_of dir) c k inside)
+      subst (λ (y : ℕ). AllByRecursion (LawfulEntry y) (place_entries (value_of dir).segments k)) c.extra
+      (subst (AllByRecursion (LawfulEntry (word_at dir 6))) (decoded_there dir (value_of dir) c k inside)
       (lawful_slots (word_at dir 6) small dir (here k (laid (value_of dir))).number (readable_there dir (value_of dir) c k inside)))
 
   pub room : length (place_entries (value_of dir).segments k) ≤ capacity_of (value_of dir).extra
@@ -68,7 +68,7 @@ module _ (bs : List Block) (o : Option Pending) (dir : List ℕ) (l : Loaded bs 
 
   -- one entry by others of as many blocks
   pub suits_spliced : (new : List Entry) → blocks_of new ≡ e.length → length es + length new ≤ 1 + capacity_of (value_of dir).extra
-      → All (LawfulEntry (value_of dir).extra) new → All Clean new
+      → AllByRecursion (LawfulEntry (value_of dir).extra) new → AllByRecursion Clean new
       → Suits (value_of dir).extra (place_entries (value_of dir).segments k) (spliced i 1 new (place_entries (value_of dir).segments k))
   suits_spliced new b n w q =
       let c = spliced_edit i e new es s in
@@ -81,7 +81,7 @@ module _ (bs : List Block) (o : Option Pending) (dir : List ℕ) (l : Loaded bs 
 
   -- the entry itself
   pub lawful_entry : LawfulEntry (value_of dir).extra e
-  lawful_entry = go (Rattle.std.proofs.lemmas.List.Elements.All-drop (LawfulEntry x) i es lawful_there) s
+  lawful_entry = go (Rattle.std.proofs.ByRecursion.All-drop (LawfulEntry x) i es lawful_there) s
     where
-      go : {ys : List Entry} → All (LawfulEntry (value_of dir).extra) ys → ys ≡ e ∷ drop (suc i) (place_entries (value_of dir).segments k) → LawfulEntry (value_of dir).extra e
-      go {ys} a p = (subst (All (LawfulEntry (value_of dir).extra)) p a).0
+      go : {ys : List Entry} → AllByRecursion (LawfulEntry (value_of dir).extra) ys → ys ≡ e ∷ drop (suc i) (place_entries (value_of dir).segments k) → LawfulEntry (value_of dir).extra e
+      go {ys} a p = (subst (AllByRecursion (LawfulEntry (value_of dir).extra)) p a).0

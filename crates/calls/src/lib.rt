@@ -1,2 +1,4 @@
 // The calls on a level that change its directory.
+#![tactic(auto)]
+
 pub mod edit;

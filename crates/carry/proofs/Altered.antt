@@ -1,6 +1,6 @@
 -- One segment of a directory edited.
-use Rattle.std.proofs.Common.{◌≡◌, ℕ, zero, suc, ◌+◌, ◌<◌, ◌≤◌, Bool, true, false, cond, ◌&&◌, eqb, leb, ◌⊎◌, List, [], ◌∷◌, ◌++◌, map, length, get_or, take, drop, sym, refl, ap, ◌∙◌, subst, inl, inr, ⊎_elim, arith}
-use Rattle.std.specs.List.{AllByRecursion as All}
+use Rattle.std.proofs.Common.{◌≡◌, ℕ, zero, suc, ◌+◌, ◌<◌, ◌≤◌, ◌&&◌, eqb, leb, ◌⊎◌, List, [], ◌∷◌, ◌++◌, map, length, get_or, take, drop, sym, refl, ap, ◌∙◌, subst, inl, inr, ⊎_elim, arith}
+use Rattle.std.specs.List.{AllByRecursion}
 use Rattle.std.proofs.lemmas.List.{length-take-le}
 use Rattle.std.proofs.ByRecursion.{All-append, All-take, All-drop, All-get_or}
 use Rattle.std.proofs.lemmas.Bool.{cond_both, cases_eq, eq-eqb, eqb-false}
@@ -18,7 +18,7 @@ use Rattle.edits.proofs.Counts.{one, count-nil, count-cons, count-append, count_
 use Rattle.edits.proofs.Chained.{altered_chain}
 use Rattle.edits.proofs.Laid.{edit_lays}
 use Rattle.carry.specs.Carries.{Member, Carries, imaged}
-use Rattle.carry.specs.Writes.{Fits, Among, Settled, Heads, no_segment, at_places, Suits, AlteredCarries}
+use Rattle.carry.specs.Writes.{Fits, Among, Heads, no_segment, at_places, Suits, AlteredCarries}
 use Rattle.carry.proofs.Writes.{written_carries}
 
 -- how often a number is met
@@ -32,17 +32,17 @@ met-laid n at (s ∷ ss) =
     count-cons (λ m. eqb m.number n) _ (laid_from (at + blocks_of s.entries) ss)
     ∙ (ap (λ k. one (eqb s.number n) + k) (met-laid n (at + blocks_of s.entries) ss) ∙ sym (count-cons (λ s. eqb s.number n) s ss))
 
-pub not_met : (n : ℕ) (ms : List Laid) → met n ms ≡ 0 → All (λ m. n ≡ m.number → ⊥) ms
+pub not_met : (n : ℕ) (ms : List Laid) → met n ms ≡ 0 → AllByRecursion (λ m. n ≡ m.number → ⊥) ms
 not_met n [] h = tt
 not_met n (m ∷ ms) h =
     let no = count_head (λ m. eqb m.number n) m ms h in
     ((λ e. eqb-false m.number n no (sym e)), not_met n ms (sym (count_no (λ m. eqb m.number n) m ms no) ∙ h))
 
-pub all_zip : {X : Type 0} (P Q : X → Type 0) (xs : List X) → All P xs → All Q xs → All (λ x. P x × Q x) xs
+pub all_zip : {X : Type 0} (P Q : X → Type 0) (xs : List X) → AllByRecursion P xs → AllByRecursion Q xs → AllByRecursion (λ x. P x × Q x) xs
 all_zip P Q [] a b = tt
 all_zip P Q (x ∷ xs) a b = ((a.0, b.0), all_zip P Q xs a.1 b.1)
 
-pub all_maps : {X : Type 0} (P Q : X → Type 0) → ((x : X) → P x → Q x) → (xs : List X) → All P xs → All Q xs
+pub all_maps : {X : Type 0} (P Q : X → Type 0) → ((x : X) → P x → Q x) → (xs : List X) → AllByRecursion P xs → AllByRecursion Q xs
 all_maps P Q f [] a = tt
 all_maps P Q f (x ∷ xs) a = (f x a.0, all_maps P Q f xs a.1)
 
@@ -89,7 +89,7 @@ once v d s n =
 
 -- the others have other numbers
 pub others : (k : ℕ) (ms : List Laid) → k < length ms → ((n : ℕ) → met n ms ≤ 1)
-    → All (λ m. (here k ms).number ≡ m.number → ⊥) (take k ms) × All (λ m. (here k ms).number ≡ m.number → ⊥) (drop (suc k) ms)
+    → AllByRecursion (λ m. (here k ms).number ≡ m.number → ⊥) (take k ms) × AllByRecursion (λ m. (here k ms).number ≡ m.number → ⊥) (drop (suc k) ms)
 others k ms h o =
     let w : Laid = here k ms in
     let n : ℕ = w.number in
@@ -136,15 +136,15 @@ module _ (dir : List ℕ) (d : Directory) (k : ℕ) (f : List Entry → List Ent
         some = there.some;
         inside = there.inside;
         few = subst (λ (es : List Entry). length (f es) ≤ capacity_of d.extra) e u.few;
-        lawful = subst (λ (es : List Entry). All (LawfulEntry d.extra) (f es)) e u.lawful;
+        lawful = subst (λ (es : List Entry). AllByRecursion (LawfulEntry d.extra) (f es)) e u.lawful;
         clean = subst (λ (es : List Entry). map cleaned (f es) ≡ f es) e u.clean;
       }
 
   abbrev Either : Laid → Type 0
-  Either m = Among (edited f was ∷ []) m ⊎ (All (λ w. w.number ≡ m.number → ⊥) (edited f was ∷ []) × Member d.extra dir m)
+  Either m = Among (edited f was ∷ []) m ⊎ (AllByRecursion (λ w. w.number ≡ m.number → ⊥) (edited f was ∷ []) × Member d.extra dir m)
 
-  kept : (ms : List Laid) → All (λ m. (here k (laid d)).number ≡ m.number → ⊥) ms → All (Member d.extra dir) ms
-      → All (λ m. Among (edited f (here k (laid d)) ∷ []) m ⊎ (All (λ w. w.number ≡ m.number → ⊥) (edited f (here k (laid d)) ∷ []) × Member d.extra dir m)) ms
+  kept : (ms : List Laid) → AllByRecursion (λ m. (here k (laid d)).number ≡ m.number → ⊥) ms → AllByRecursion (Member d.extra dir) ms
+      → AllByRecursion (λ m. Among (edited f (here k (laid d)) ∷ []) m ⊎ (AllByRecursion (λ w. w.number ≡ m.number → ⊥) (edited f (here k (laid d)) ∷ []) × Member d.extra dir m)) ms
   kept [] a b = tt
   kept (m ∷ ms) a b = (inr ((a.0, tt), b.0), kept ms a.1 b.1)
 
@@ -160,7 +160,7 @@ module _ (dir : List ℕ) (d : Directory) (k : ℕ) (f : List Entry → List Ent
       let o = others k (laid d) in_laid (once v d s) in
       subst (λ (ms : List Laid). Carries (imaged dir new ms) new) (sym written_one)
       (written_carries dir d new (edited f was ∷ []) c refl refl (fits, tt) (tt, tt) heads
-      (subst (All Either) (sym laid-new)
+      (subst (AllByRecursion Either) (sym laid-new)
       (All-append Either (take k (laid d)) (edited f was ∷ drop (suc k) (laid d))
       (kept (take k (laid d)) o.0 (All-take (Member d.extra dir) k (laid d) c.members))
       (inl (inl refl), kept (drop (suc k) (laid d)) o.1 (All-drop (Member d.extra dir) (suc k) (laid d) c.members)))))

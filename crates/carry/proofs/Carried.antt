@@ -1,26 +1,24 @@
 -- Bytes that hold a lawful directory are read as that directory, and are sound.
-use Rattle.std.proofs.Common.{◌≡◌, ℕ, zero, suc, ◌+◌, ◌*◌, ◌%◌, ◌<◌, ◌≤◌, Bool, true, false, cond, ◌&&◌, eqb, leb, List, [], ◌∷◌, ◌++◌, map, length, is_some, Some, None, Option, unwrap_or, sym, refl, ap, ◌∙◌, subst, arith}
-use Rattle.std.specs.List.{AllByRecursion as All}
-use Rattle.std.proofs.ByRecursion.{All-weaker}
+use Rattle.std.proofs.Common.{◌≡◌, ℕ, suc, ◌+◌, ◌*◌, ◌%◌, ◌≤◌, true, List, [], ◌∷◌, map, length, Some, None, Option, unwrap_or, sym, refl, ap, ◌∙◌, subst, arith}
+use Rattle.std.specs.List.{AllByRecursion}
 use Rattle.std.proofs.lemmas.Bool.{cond-true, eq-eqb, le-leb, and_from}
 use Rattle.codec.specs.Words.{word_at}
 use Rattle.volume.specs.declared.entry.Entry.{Entry}
 use Rattle.segment.specs.Rule4.{Links}
-use Rattle.segment.specs.Chains.{segment_at, next_of, chain_from}
+use Rattle.segment.specs.Chains.{next_of, chain_from}
 use Rattle.segment.specs.Directories.{Segment, Directory, entries_at, flat, chain_of}
 use Rattle.segment.proofs.Rule4.{from_links}
 use Rattle.directory.specs.declared.pending.Pending.{Pending}
 use Rattle.directory.specs.Walks.{blocks_of}
-use Rattle.directory.specs.Finds.{tentatives, all_well_named, all_apart}
+use Rattle.directory.specs.Finds.{tentatives}
 use Rattle.directory.specs.Rules.{every, in_use, same_extra, extra_sound, lawful_at, pending_stands, open_stands, all_placed, contiguous_from, broken_late, broken_along, broken_by, broken_rule}
-use Rattle.edits.specs.Entries.{is_tentative, is_named, is_misnamed, count}
 use Rattle.edits.specs.Directories.{highest, entries_of, first_block, Begins, Lawful}
 use Rattle.edits.specs.Laid.{Laid, next_number, laid_from, laid}
-use Rattle.edits.specs.Values.{value_at, values_of, value_of}
+use Rattle.edits.specs.Values.{values_of, value_of}
 use Rattle.edits.proofs.Counts.{blocks_nil, blocks_append}
 use Rattle.edits.proofs.Tested.{from_each}
 use Rattle.carry.specs.Carries.{Member, Carries}
-use Rattle.carry.specs.Laws.{outputs, StandsOpen, CarriedReads, CarriedIsSound}
+use Rattle.carry.specs.Laws.{CarriedReads, CarriedIsSound}
 use Rattle.carry.proofs.Lines.{Lines, lines_chain, tentatives_are, well_from, apart_from, blocks_cleaned}
 
 -- the numbers of some segments
@@ -31,7 +29,7 @@ pub length-numbers : (ss : List Segment) → length (numbers ss) ≡ length ss
 length-numbers [] = refl
 length-numbers (s ∷ ss) = ap suc (length-numbers ss)
 
-numbers_below : (h : ℕ) (ss : List Segment) → All (λ s. (1 ≤ s.number) × (s.number ≤ h)) ss → All (λ k. k ≤ h) (numbers ss)
+numbers_below : (h : ℕ) (ss : List Segment) → AllByRecursion (λ s. (1 ≤ s.number) × (s.number ≤ h)) ss → AllByRecursion (λ k. k ≤ h) (numbers ss)
 numbers_below h [] a = tt
 numbers_below h (s ∷ ss) a = (a.0.1, numbers_below h ss a.1)
 
@@ -39,30 +37,30 @@ module _ (x : ℕ) (dir : List ℕ) where
   blocks_there : (m : Laid) → Member x dir m → blocks_of (entries_at x dir m.number) ≡ blocks_of m.entries
   blocks_there m h = sym (blocks_cleaned (entries_at x dir m.number)) ∙ ap blocks_of h.entries
 
-  links : (at : ℕ) (ss : List Segment) → All (Member x dir) (laid_from at ss) → Links (next_of dir) (next_number ss) (numbers ss)
+  links : (at : ℕ) (ss : List Segment) → AllByRecursion (Member x dir) (laid_from at ss) → Links (next_of dir) (next_number ss) (numbers ss)
   unfolding laid_from
   links at [] a = refl
   links at (s ∷ ss) a =
       (refl, a.0.some, subst (λ (k : ℕ). Links (next_of dir) k (numbers ss)) (sym a.0.next) (links (at + blocks_of s.entries) ss a.1))
 
-  values : (at : ℕ) (ss : List Segment) → All (Member x dir) (laid_from at ss) → values_of x dir (numbers ss) ≡ ss
+  values : (at : ℕ) (ss : List Segment) → AllByRecursion (Member x dir) (laid_from at ss) → values_of x dir (numbers ss) ≡ ss
   unfolding laid_from values_of
   values at [] a = refl
   values at (s ∷ ss) a =
       ap (λ (es : List Entry). record { number = s.number; entries = es } ∷ values_of x dir (numbers ss)) a.0.entries
       ∙ ap (λ (ts : List Segment). s ∷ ts) (values (at + blocks_of s.entries) ss a.1)
 
-  extras : (at : ℕ) (ss : List Segment) → All (Member x dir) (laid_from at ss) → every (same_extra x dir) (numbers ss) ≡ true
+  extras : (at : ℕ) (ss : List Segment) → AllByRecursion (Member x dir) (laid_from at ss) → every (same_extra x dir) (numbers ss) ≡ true
   unfolding laid_from
   extras at [] a = refl
   extras at (s ∷ ss) a = and_from _ _ (eq-eqb _ x a.0.extra) (extras (at + blocks_of s.entries) ss a.1)
 
-  lawfuls : (at : ℕ) (ss : List Segment) → All (Member x dir) (laid_from at ss) → every (lawful_at x dir) (numbers ss) ≡ true
+  lawfuls : (at : ℕ) (ss : List Segment) → AllByRecursion (Member x dir) (laid_from at ss) → every (lawful_at x dir) (numbers ss) ≡ true
   unfolding laid_from
   lawfuls at [] a = refl
   lawfuls at (s ∷ ss) a = and_from _ _ a.0.readable (lawfuls (at + blocks_of s.entries) ss a.1)
 
-  contiguous : (v at : ℕ) (ss : List Segment) → All (Member x dir) (laid_from at ss) → at + blocks_of (flat ss) ≡ v
+  contiguous : (v at : ℕ) (ss : List Segment) → AllByRecursion (Member x dir) (laid_from at ss) → at + blocks_of (flat ss) ≡ v
       → contiguous_from x dir v at (numbers ss) ≡ true
   unfolding laid_from contiguous_from flat
   contiguous v at [] a h = eq-eqb at v (omega (arith, blocks_nil))
@@ -81,8 +79,8 @@ module _ (dir : List ℕ) (d : Directory) (n v : ℕ) (c : Carries dir d) (l : L
   abbrev x : ℕ
   x = word_at dir 6
 
-  members : All (Member (word_at dir 6) dir) (laid d)
-  members = subst (λ (z : ℕ). All (Member z dir) (laid d)) (sym c.extra) c.members
+  members : AllByRecursion (Member (word_at dir 6) dir) (laid d)
+  members = subst (λ (z : ℕ). AllByRecursion (Member z dir) (laid d)) (sym c.extra) c.members
 
   begun : next_number d.segments ≡ 1
   begun = go d.segments l.shaped.begins
@@ -93,7 +91,7 @@ module _ (dir : List ℕ) (d : Directory) (n v : ℕ) (c : Carries dir d) (l : L
 
   pub chain_found : chain_from (word_at dir 4) (word_at dir 4) (next_of dir) 1 ≡ Some (numbers d.segments)
   chain_found =
-      let inside = numbers_below (word_at dir 4) ss (subst (λ (h : ℕ). All (λ s. (1 ≤ s.number) × (s.number ≤ h)) ss) (sym c.used) (from_each ss (highest d) l.shaped.each_once)) in
+      let inside = numbers_below (word_at dir 4) ss (subst (λ (h : ℕ). AllByRecursion (λ s. (1 ≤ s.number) × (s.number ≤ h)) ss) (sym c.used) (from_each ss (highest d) l.shaped.each_once)) in
       let long : length ks ≡ word_at dir 4 = length-numbers ss ∙ sym c.used in
       subst (λ (m : ℕ). chain_from m (word_at dir 4) (next_of dir) 1 ≡ Some ks) long
       (from_links (word_at dir 4) (next_of dir) 1 ks (subst (λ (k : ℕ). Links (next_of dir) k ks) begun (links x dir (first_block d) ss members)) inside)

@@ -1,6 +1,6 @@
 -- The entries of a chain in their places, beside those of the value: what is asked of the ones is asked of the others.
-use Rattle.std.proofs.Common.{◌≡◌, ℕ, ◌+◌, ◌≤◌, Bool, true, false, cond, not, ◌&&◌, ◌||◌, ltb, ◌⊎◌, List, [], ◌∷◌, ◌++◌, map, Some, None, Option, sym, refl, ap, ◌∙◌, subst, inl, inr, arith}
-use Rattle.std.proofs.lemmas.Bool.{cond_both, cases_Bool, and_parts, and_from, false≢true, true≢false}
+use Rattle.std.proofs.Common.{◌≡◌, ℕ, ◌+◌, ◌≤◌, Bool, true, false, cond, not, ◌&&◌, ◌||◌, List, [], ◌∷◌, ◌++◌, map, Some, sym, refl, ap, ◌∙◌, arith}
+use Rattle.std.proofs.lemmas.Bool.{cond_both, and_parts, and_from, false≢true}
 use Rattle.codec.specs.declared.name.Name.{Name}
 use Rattle.volume.specs.declared.entry.Status.{Status}
 use Rattle.volume.specs.declared.entry.Status.TheVariants.{Tentative, Empty, Permanent, Protected}
@@ -11,9 +11,9 @@ use Rattle.directory.specs.Walks.{placed, blocks_of, placed_in, left_from}
 use Rattle.directory.specs.Finds.{file_status, tentative_status, tentatives, first_named, well_named, all_well_named, none, alone, all_apart}
 use Rattle.directory.specs.Finds as find
 use Rattle.edits.specs.Entries.{empty_of, empty_status, is_file, is_empty, is_tentative, is_named, is_misnamed, same_name, lawful_words, count}
-use Rattle.edits.specs.Values.{cleaned, value_at, values_of}
-use Rattle.edits.proofs.Counts.{one, blocks_nil, blocks_cons, blocks_append, count-nil, count-cons, count_yes, count_no, count_head}
-use Rattle.edits.proofs.Named.{same_is, name_same, named_file, named_name}
+use Rattle.edits.specs.Values.{cleaned, values_of}
+use Rattle.edits.proofs.Counts.{one, blocks_cons, count-nil, count-cons, count_yes, count_no, count_head}
+use Rattle.edits.proofs.Named.{name_same, named_file, named_name}
 
 -- the same status and length, and of a file the same name
 pub record Like (p : Placed) (e : Entry) : Type 0 where

@@ -1,32 +1,28 @@
 -- The bytes of a sound directory hold its value, which is lawful.
-use Rattle.std.proofs.Common.{◌≡◌, ℕ, zero, suc, ◌+◌, ◌*◌, ◌%◌, ◌<◌, ◌≤◌, Bool, true, false, cond, ◌&&◌, eqb, leb, ◌⊎◌, List, [], ◌∷◌, ◌++◌, map, length, is_some, Some, None, Option, unwrap_or, sym, refl, ap, ◌∙◌, subst, inl, inr, ⊎_elim, arith}
-use Rattle.std.specs.List.{AllByRecursion as All}
+use Rattle.std.proofs.Common.{◌≡◌, ℕ, suc, ◌+◌, ◌*◌, ◌%◌, ◌<◌, ◌≤◌, Bool, true, false, cond, ◌&&◌, eqb, leb, List, [], ◌∷◌, length, Some, None, Option, unwrap_or, sym, refl, ap, ◌∙◌, subst, ⊎_elim, arith}
+use Rattle.std.specs.List.{AllByRecursion}
 use Rattle.std.proofs.lemmas.List.{length-map}
 use Rattle.std.proofs.lemmas.Bool.{cases_eq, eq-eqb, ne_eqb, eqb-true, leb-true, and_parts}
 use Rattle.codec.specs.Words.{word_at}
-use Rattle.volume.specs.declared.entry.Entry.{Entry}
-use Rattle.volume.specs.Levels.{segments_fit}
 use Rattle.volume.specs.Segments.{capacity_of}
-use Rattle.segment.specs.Segments.{segment_entries}
 use Rattle.segment.specs.Rule4.{Links, times}
 use Rattle.segment.specs.Chains.{segment_at, next_of, chain_from}
-use Rattle.segment.specs.Directories.{Segment, Directory, entries_at, flat, chain_of}
-use Rattle.segment.proofs.Rule4.{Along, along, chain_inside, chain_once}
+use Rattle.segment.specs.Directories.{Segment, entries_at, flat, chain_of}
+use Rattle.segment.proofs.Rule4.{along, chain_inside, chain_once}
 use Rattle.segment.proofs.Walks.{segment_few}
 use Rattle.directory.specs.declared.pending.Pending.{Pending}
 use Rattle.directory.specs.Walks.{blocks_of}
 use Rattle.directory.specs.Finds.{tentatives, all_well_named, all_apart}
-use Rattle.directory.specs.Rules.{every, in_use, same_extra, extra_sound, lawful_at, pending_stands, open_stands, all_placed, contiguous_from, broken_late, broken_along, broken_by, broken_rule}
+use Rattle.directory.specs.Rules.{every, in_use, same_extra, extra_sound, lawful_at, open_stands, all_placed, contiguous_from, broken_late, broken_along, broken_by, broken_rule}
 use Rattle.directory.proofs.Walking.{entries_read}
-use Rattle.edits.specs.Entries.{is_tentative, count}
-use Rattle.edits.specs.Directories.{highest, entries_of, first_block, Begins, meets, Lawful}
-use Rattle.edits.specs.Laid.{Laid, next_number, laid_from, laid}
+use Rattle.edits.specs.Directories.{Begins, meets}
+use Rattle.edits.specs.Laid.{next_number, laid_from}
 use Rattle.edits.specs.Values.{cleaned, value_at, values_of, value_of}
 use Rattle.edits.proofs.Counts.{one, blocks_nil, blocks_append, count-nil, count-cons}
 use Rattle.edits.proofs.Tested.{to_each}
 use Rattle.carry.specs.Carries.{Member, Carries}
 use Rattle.carry.specs.Laws.{outputs, StandsOpen, SoundIsLawful}
-use Rattle.carry.proofs.Lines.{Lines, lines_chain, tentatives_are, well_to, apart_to, blocks_cleaned}
+use Rattle.carry.proofs.Lines.{lines_chain, tentatives_are, well_to, apart_to, blocks_cleaned}
 
 -- the rules, one by one
 pub record Rules (dir : List ℕ) (v : ℕ) (o : Option Pending) : Type 0 where
@@ -90,7 +86,7 @@ module _ (x : ℕ) (dir : List ℕ) where
       count-cons (λ s. eqb s.number j) (record { number = k; entries = value_at x dir k }) (values_of x dir ks)
       ∙ (ap (λ b. one b + meets j (values_of x dir ks)) (eqb_swap k j) ∙ ap (λ n. cond (eqb j k) 1 0 + n) (meets-times j ks))
 
-  inside : (h : ℕ) (ks : List ℕ) → All (λ j. (1 ≤ j) × (j ≤ h)) ks → All (λ s. (1 ≤ s.number) × (s.number ≤ h)) (values_of x dir ks)
+  inside : (h : ℕ) (ks : List ℕ) → AllByRecursion (λ j. (1 ≤ j) × (j ≤ h)) ks → AllByRecursion (λ s. (1 ≤ s.number) × (s.number ≤ h)) (values_of x dir ks)
   unfolding values_of
   inside h [] a = tt
   inside h (k ∷ ks) a = (a.0, inside h ks a.1)
@@ -105,7 +101,7 @@ module _ (x : ℕ) (dir : List ℕ) where
   next_is k [] l = sym l
   next_is k (j ∷ ks) l = l.0
 
-  rooms : (ks : List ℕ) → every (lawful_at x dir) ks ≡ true → All (λ s. length s.entries ≤ capacity_of x) (values_of x dir ks)
+  rooms : (ks : List ℕ) → every (lawful_at x dir) ks ≡ true → AllByRecursion (λ s. length s.entries ≤ capacity_of x) (values_of x dir ks)
   unfolding values_of
   rooms [] h = tt
   rooms (k ∷ ks) h =
@@ -119,9 +115,9 @@ module _ (x : ℕ) (dir : List ℕ) where
       let t = and_parts (eqb (word_at (segment_at dir k) 8) at) _ h in
       omega (arith, fills v (at + blocks_of (entries_at x dir k)) ks t.1, blocks_append (value_at x dir k) (flat (values_of x dir ks)), blocks_cleaned (entries_at x dir k))
 
-  members : (n v at k : ℕ) (ks : List ℕ) → 1024 * n ≤ length dir → All (λ j. (1 ≤ j) × (j ≤ n)) ks → Links (next_of dir) k ks
+  members : (n v at k : ℕ) (ks : List ℕ) → 1024 * n ≤ length dir → AllByRecursion (λ j. (1 ≤ j) × (j ≤ n)) ks → Links (next_of dir) k ks
       → every (same_extra x dir) ks ≡ true → every (lawful_at x dir) ks ≡ true → contiguous_from x dir v at ks ≡ true
-      → All (Member x dir) (laid_from at (values_of x dir ks))
+      → AllByRecursion (Member x dir) (laid_from at (values_of x dir ks))
   unfolding values_of laid_from contiguous_from
   members n v at k [] long a l e r c = tt
   members n v at k (j ∷ ks) long a l e r c =
@@ -137,7 +133,7 @@ module _ (x : ℕ) (dir : List ℕ) where
           readable = t.0;
           entries = refl;
         },
-        subst (λ (b : ℕ). All (Member x dir) (laid_from (at + b) (values_of x dir ks))) (sym (blocks_cleaned (entries_at x dir j)))
+        subst (λ (b : ℕ). AllByRecursion (Member x dir) (laid_from (at + b) (values_of x dir ks))) (sym (blocks_cleaned (entries_at x dir j)))
             (members n v (at + blocks_of (entries_at x dir j)) (next_of dir k) ks long a.1 l.2 s.1 t.1 u.1),
       )
 

@@ -1,17 +1,16 @@
 -- Segments written into the bytes of a directory.
-use Rattle.std.proofs.Common.{◌≡◌, ℕ, zero, suc, ◌+◌, ◌-◌, ◌*◌, ◌<◌, ◌≤◌, Bool, true, false, ◌⊎◌, List, [], ◌∷◌, ◌++◌, map, length, is_some, Some, None, Option, unwrap_or, sym, refl, ap, ◌∙◌, subst, inl, inr, ⊎_elim, arith}
-use Rattle.std.specs.List.{AllByRecursion as All}
+use Rattle.std.proofs.Common.{◌≡◌, ℕ, ◌+◌, ◌-◌, ◌*◌, ◌<◌, ◌≤◌, ◌⊎◌, List, [], ◌∷◌, map, length, is_some, Option, unwrap_or, sym, refl, ap, ◌∙◌, subst, inl, inr, ⊎_elim, arith}
+use Rattle.std.specs.List.{AllByRecursion}
 use Rattle.codec.specs.Words.{word_at, written}
 use Rattle.volume.specs.declared.entry.Entry.{Entry}
-use Rattle.volume.specs.Segments.{segment_bytes}
 use Rattle.segment.specs.Segments.{segment_entries}
-use Rattle.segment.specs.Chains.{segment_at, next_of}
-use Rattle.segment.specs.Directories.{Segment, Directory}
+use Rattle.segment.specs.Chains.{segment_at}
+use Rattle.segment.specs.Directories.{Directory}
 use Rattle.segment.proofs.RoundTrip.{length_segment, header_back, segment_back}
 use Rattle.segment.proofs.Workspace.{word_in_first, next_in}
-use Rattle.edits.specs.Directories.{highest, Begins}
-use Rattle.edits.specs.Laid.{Laid, laid_from, laid}
-use Rattle.edits.specs.Values.{cleaned, value_at}
+use Rattle.edits.specs.Directories.{highest}
+use Rattle.edits.specs.Laid.{Laid, laid}
+use Rattle.edits.specs.Values.{cleaned}
 use Rattle.carry.specs.Carries.{Member, Carries, header_of, image, imaged}
 use Rattle.carry.specs.Writes.{Fits, Among, Settled, Heads, WrittenCarries}
 use Rattle.carry.proofs.Bytes.{segment_same, segment_other, over-long}
@@ -22,17 +21,17 @@ module _ (d : Directory) where
   image-long n m f = length_segment (header_of d m) m.entries f.few f.lawful
 
   -- the other segments stay
-  pub imaged-long : (dir : List ℕ) (ms : List Laid) → All (Fits (length dir) d.extra) ms → length (imaged dir d ms) ≡ length dir
+  pub imaged-long : (dir : List ℕ) (ms : List Laid) → AllByRecursion (Fits (length dir) d.extra) ms → length (imaged dir d ms) ≡ length dir
   unfolding imaged
   imaged-long dir [] a = refl
   imaged-long dir (m ∷ ms) a =
       let l = image-long (length dir) m a.0 in
       let o = over-long dir m.number (image d m) l a.0.some a.0.inside in
       imaged-long (written dir (1024 * (m.number - 1)) (image d m)) ms
-      (subst (λ (n : ℕ). All (Fits n d.extra) ms) (sym o) a.1)
+      (subst (λ (n : ℕ). AllByRecursion (Fits n d.extra) ms) (sym o) a.1)
       ∙ o
 
-  pub imaged_other : (dir : List ℕ) (ms : List Laid) → All (Fits (length dir) d.extra) ms → (j : ℕ) → 1 ≤ j → All (λ m. m.number ≡ j → ⊥) ms
+  pub imaged_other : (dir : List ℕ) (ms : List Laid) → AllByRecursion (Fits (length dir) d.extra) ms → (j : ℕ) → 1 ≤ j → AllByRecursion (λ m. m.number ≡ j → ⊥) ms
       → segment_at (imaged dir d ms) j ≡ segment_at dir j
   unfolding imaged
   imaged_other dir [] a j p q = refl
@@ -40,11 +39,11 @@ module _ (d : Directory) where
       let l = image-long (length dir) m a.0 in
       let o = over-long dir m.number (image d m) l a.0.some a.0.inside in
       imaged_other (written dir (1024 * (m.number - 1)) (image d m)) ms
-      (subst (λ (n : ℕ). All (Fits n d.extra) ms) (sym o) a.1) j p q.1
+      (subst (λ (n : ℕ). AllByRecursion (Fits n d.extra) ms) (sym o) a.1) j p q.1
       ∙ segment_other dir m.number (image d m) l a.0.some a.0.inside j p (λ e. q.0 (sym e))
 
   -- a segment that is written, by the last of those of its number
-  pub imaged-here : (dir : List ℕ) (ms : List Laid) → All (Fits (length dir) d.extra) ms → Settled ms → (m : Laid) → Among ms m
+  pub imaged-here : (dir : List ℕ) (ms : List Laid) → AllByRecursion (Fits (length dir) d.extra) ms → Settled ms → (m : Laid) → Among ms m
       → segment_at (imaged dir d ms) m.number ≡ image d m
   unfolding imaged
   imaged-here dir [] a s m h = absurd h
@@ -52,7 +51,7 @@ module _ (d : Directory) where
       let l = image-long (length dir) w a.0 in
       let o = over-long dir w.number (image d w) l a.0.some a.0.inside in
       let dir' : List ℕ = written dir (1024 * (w.number - 1)) (image d w) in
-      let b = subst (λ (n : ℕ). All (Fits n d.extra) ms) (sym o) a.1 in
+      let b = subst (λ (n : ℕ). AllByRecursion (Fits n d.extra) ms) (sym o) a.1 in
       ⊎_elim
       (λ (e : m ≡ w).
       ap (λ (z : Laid). segment_at (imaged dir' d ms) z.number) e
@@ -93,27 +92,27 @@ member_kept x dir dir' m l e h =
     }
 
 module _ (dir : List ℕ) (old new : Directory) (ms : List Laid) (c : Carries dir old) (t : new.total ≡ old.total) (x : new.extra ≡ old.extra)
-    (a : All (Fits (length dir) new.extra) ms) (s : Settled ms) where
+    (a : AllByRecursion (Fits (length dir) new.extra) ms) (s : Settled ms) where
   abbrev after : List ℕ
   after = imaged dir new ms
 
-  each : (ls : List Laid) → All (λ m. Among ms m ⊎ (All (λ w. w.number ≡ m.number → ⊥) ms × Member new.extra dir m)) ls
-      → All (Fits (length dir) new.extra) ms → All (Member new.extra (imaged dir new ms)) ls
+  each : (ls : List Laid) → AllByRecursion (λ m. Among ms m ⊎ (AllByRecursion (λ w. w.number ≡ m.number → ⊥) ms × Member new.extra dir m)) ls
+      → AllByRecursion (Fits (length dir) new.extra) ms → AllByRecursion (Member new.extra (imaged dir new ms)) ls
   each [] h f = tt
   each (m ∷ ls) h f = (go h.0, each ls h.1 f)
     where
-      fit : (ws : List Laid) → All (Fits (length dir) new.extra) ws → Among ws m → Fits (length dir) new.extra m
+      fit : (ws : List Laid) → AllByRecursion (Fits (length dir) new.extra) ws → Among ws m → Fits (length dir) new.extra m
       fit [] b g = absurd g
       fit (w ∷ ws) b g = ⊎_elim (λ (e : m ≡ w). subst (Fits (length dir) new.extra) (sym e) b.0) (λ (k : Among ws m). fit ws b.1 k) g
 
-      go : Among ms m ⊎ (All (λ w. w.number ≡ m.number → ⊥) ms × Member new.extra dir m) → Member new.extra (imaged dir new ms) m
+      go : Among ms m ⊎ (AllByRecursion (λ w. w.number ≡ m.number → ⊥) ms × Member new.extra dir m) → Member new.extra (imaged dir new ms) m
       go (inl g) =
           member_written new (imaged dir new ms) (length dir) m (fit ms a g) (omega (arith, imaged-long new dir ms a)) (imaged-here new dir ms a s m g)
       go (inr g) =
           member_kept new.extra dir (imaged dir new ms) m (imaged-long new dir ms a) (imaged_other new dir ms a m.number g.1.some g.0) g.1
 
-  pub all_members : All (λ m. Among ms m ⊎ (All (λ w. w.number ≡ m.number → ⊥) ms × Member new.extra dir m)) (laid new)
-      → All (Member new.extra (imaged dir new ms)) (laid new)
+  pub all_members : AllByRecursion (λ m. Among ms m ⊎ (AllByRecursion (λ w. w.number ≡ m.number → ⊥) ms × Member new.extra dir m)) (laid new)
+      → AllByRecursion (Member new.extra (imaged dir new ms)) (laid new)
   all_members h = each (laid new) h a
 
   words : Heads old new ms → (word_at (imaged dir new ms) 0 ≡ new.total) × (word_at (imaged dir new ms) 4 ≡ highest new) × (word_at (imaged dir new ms) 6 ≡ new.extra)

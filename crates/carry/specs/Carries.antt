@@ -1,6 +1,6 @@
 -- Bytes that hold a directory: segment 1 has the words S, H and x, and each segment of the chain its header and its entries.
 use Rattle.std.specs.Prelude.{◌≡◌, ℕ, ◌-◌, ◌*◌, ◌≤◌, true, List, [], ◌∷◌, length, is_some}
-use Rattle.std.specs.List.{AllByRecursion as All}
+use Rattle.std.specs.List.{AllByRecursion}
 use Rattle.codec.specs.Words.{word_at, written}
 use Rattle.volume.specs.declared.segment.Header.{Header}
 use Rattle.volume.specs.Segments.{segment_bytes}
@@ -25,7 +25,7 @@ pub record Carries (dir : List ℕ) (d : Directory) : Type 0 where
   pub total : word_at dir 0 ≡ d.total
   pub used : word_at dir 4 ≡ highest d
   pub extra : word_at dir 6 ≡ d.extra
-  pub members : All (Member d.extra dir) (laid d)
+  pub members : AllByRecursion (Member d.extra dir) (laid d)
 
 -- the header of a segment that is written: the directory's S, H and x, and its own next and start
 abbrev pub header_of : Directory → Laid → Header

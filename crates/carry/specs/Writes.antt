@@ -1,6 +1,6 @@
 -- Segments written into the bytes of a directory.
 use Rattle.std.specs.Prelude.{◌≡◌, ℕ, zero, suc, ◌*◌, ◌<◌, ◌≤◌, ◌⊎◌, List, [], ◌∷◌, ◌++◌, map, length, take, drop, ◌≢◌, slice_index_or}
-use Rattle.std.specs.List.{AllByRecursion as All}
+use Rattle.std.specs.List.{AllByRecursion}
 use Rattle.volume.specs.declared.entry.Entry.{Entry}
 use Rattle.volume.specs.Segments.{capacity_of}
 use Rattle.segment.specs.Entries.{LawfulEntry}
@@ -17,7 +17,7 @@ pub record Fits (n x : ℕ) (m : Laid) : Type 0 where
   pub some : 1 ≤ m.number
   pub inside : 1024 * m.number ≤ n
   pub few : length m.entries ≤ capacity_of x
-  pub lawful : All (LawfulEntry x) m.entries
+  pub lawful : AllByRecursion (LawfulEntry x) m.entries
   pub clean : map cleaned m.entries ≡ m.entries
 
 -- m is one of some segments
@@ -28,20 +28,20 @@ Among (w ∷ ms) m = (m ≡ w) ⊎ Among ms m
 -- no two have one number
 abbrev pub Settled : List Laid → Type 0
 Settled [] = Unit {0}
-Settled (m ∷ ms) = All (λ w. w.number ≢ m.number) ms × Settled ms
+Settled (m ∷ ms) = AllByRecursion (λ w. w.number ≢ m.number) ms × Settled ms
 
 -- segment 1 is written, or H stays
 abbrev pub Heads : Directory → Directory → List Laid → Type 0
 Heads old new ms =
-    ((m : Laid) × Among ms m × (m.number ≡ 1)) ⊎ (All (λ w. w.number ≢ 1) ms × (highest new ≡ highest old))
+    ((m : Laid) × Among ms m × (m.number ≡ 1)) ⊎ (AllByRecursion (λ w. w.number ≢ 1) ms × (highest new ≡ highest old))
 
 -- each segment of the new chain is written, or is as it was
 abbrev pub WrittenCarries : Type 0
 WrittenCarries =
     (dir : List ℕ) (old new : Directory) (ms : List Laid)
     → Carries dir old → new.total ≡ old.total → new.extra ≡ old.extra
-    → All (Fits (length dir) new.extra) ms → Settled ms → Heads old new ms
-    → All (λ m. Among ms m ⊎ (All (λ w. w.number ≢ m.number) ms × Member new.extra dir m)) (laid new)
+    → AllByRecursion (Fits (length dir) new.extra) ms → Settled ms → Heads old new ms
+    → AllByRecursion (λ m. Among ms m ⊎ (AllByRecursion (λ w. w.number ≢ m.number) ms × Member new.extra dir m)) (laid new)
     → Carries (imaged dir new ms) new
 
 -- what stands past the end of a chain
@@ -56,7 +56,7 @@ at_places ms ks = map (λ k. slice_index_or ms k no_segment) ks
 pub record Suits (x : ℕ) (old new : List Entry) : Type 0 where
   pub blocks : blocks_of new ≡ blocks_of old
   pub few : length new ≤ capacity_of x
-  pub lawful : All (LawfulEntry x) new
+  pub lawful : AllByRecursion (LawfulEntry x) new
   pub clean : map cleaned new ≡ new
 
 -- an edit of one segment: its place alone is written
@@ -79,5 +79,5 @@ PartedCarries =
     → Carries dir d → Shaped v d → k < length d.segments → new.total ≡ d.total → new.extra ≡ d.extra
     → laid new ≡ take k (laid d) ++ one ∷ two ∷ drop (suc k) (laid d)
     → one.number ≡ (slice_index_or (laid d) k no_segment).number → two.number ≡ suc (highest d)
-    → All (Fits (length dir) new.extra) (at_places (laid new) (split_places k))
+    → AllByRecursion (Fits (length dir) new.extra) (at_places (laid new) (split_places k))
     → Carries (imaged dir new (at_places (laid new) (split_places k))) new

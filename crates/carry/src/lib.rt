@@ -1,4 +1,6 @@
 // The bytes of a directory, and the directory as a value.
+#![tactic(auto)]
+
 ghost use Rattle.carry.specs.Laws.{SoundIsLawful, CarriedReads, CarriedIsSound};
 ghost use Rattle.carry.specs.Writes.{WrittenCarries, AlteredCarries, PartedCarries};
 

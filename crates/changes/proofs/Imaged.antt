@@ -1,6 +1,5 @@
 -- A segment that is written again is that of the changed directory.
-use Rattle.std.proofs.Common.{◌≡◌, ℕ, zero, suc, ◌+◌, ◌-◌, ◌*◌, ◌<◌, ◌≤◌, Bool, true, false, cond, List, [], ◌∷◌, ◌++◌, map, length, get_or, take, drop, sym, refl, ap, ◌∙◌, subst, arith}
-use Rattle.std.specs.List.{AllByRecursion as All}
+use Rattle.std.proofs.Common.{◌≡◌, ℕ, zero, suc, ◌+◌, ◌-◌, ◌*◌, ◌<◌, ◌≤◌, List, [], ◌∷◌, length, get_or, sym, refl, ap, ◌∙◌, subst, arith}
 use Rattle.std.proofs.lemmas.List.{length-drop}
 use Rattle.codec.specs.Words.{word_at, written}
 use Rattle.volume.specs.declared.entry.Entry.{Entry}
@@ -8,17 +7,17 @@ use Rattle.volume.specs.declared.segment.Header.{Header}
 use Rattle.volume.specs.Segments.{segment_bytes}
 use Rattle.segment.specs.Directories.{Segment, Directory, flat, chain_of}
 use Rattle.directory.specs.Walks.{blocks_of, Readable}
-use Rattle.edits.specs.Directories.{highest, first_block, place_entries, entries_of, Shaped, Lawful}
+use Rattle.edits.specs.Directories.{highest, first_block, place_entries, Shaped, Lawful}
 use Rattle.edits.specs.Edits.{altered, holding}
 use Rattle.edits.specs.Laws.{Stands}
-use Rattle.edits.specs.Laid.{Laid, laid_from, laid}
+use Rattle.edits.specs.Laid.{laid_from, laid}
 use Rattle.edits.specs.Values.{value_at, values_of, value_of}
 use Rattle.edits.proofs.Counts.{blocks_append}
 use Rattle.edits.proofs.Chained.{altered_chain}
 use Rattle.edits.proofs.Places.{stands_inside}
 use Rattle.carry.specs.Carries.{Member, Carries, header_of, image, imaged}
 use Rattle.carry.specs.Writes.{no_segment, at_places, Suits}
-use Rattle.carry.proofs.Altered.{here, edited, written_one, there, entries_there, entries-here, length-laid}
+use Rattle.carry.proofs.Altered.{here, edited, written_one, entries-here, length-laid}
 use Rattle.slots.specs.Slots.{header_at}
 use Rattle.changes.specs.Segments.{entries_in, EntryIn, with_entries}
 
@@ -45,7 +44,7 @@ header_same total next highest extra start total' next' highest' extra' start' a
 
 module _ (dir : List ℕ) (d : Directory) (c : Carries dir d) (k : ℕ) (h : k < length d.segments) where
   was : Member d.extra dir (here k (laid d))
-  was = Rattle.std.proofs.lemmas.List.Elements.All-get_or (Member d.extra dir) (laid d) k no_segment (omega (arith, h, length-laid (first_block d) d.segments)) c.members
+  was = Rattle.std.proofs.ByRecursion.All-get_or (Member d.extra dir) (laid d) k no_segment (omega (arith, h, length-laid (first_block d) d.segments)) c.members
 
   -- its entries, as they are decoded
   pub decoded_there : entries_in dir (here k (laid d)).number ≡ place_entries d.segments k

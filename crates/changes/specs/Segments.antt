@@ -1,5 +1,5 @@
 -- One segment of a directory in the workspace, with its entries changed.
-use Rattle.std.specs.Prelude.{◌≡◌, ℕ, ◌-◌, ◌*◌, ◌<◌, ◌≤◌, List, length}
+use Rattle.std.specs.Prelude.{ℕ, ◌-◌, ◌*◌, ◌<◌, ◌≤◌, List, length}
 use Rattle.codec.specs.Words.{word_at, written}
 use Rattle.volume.specs.declared.entry.Entry.{Entry}
 use Rattle.volume.specs.Segments.{segment_bytes}

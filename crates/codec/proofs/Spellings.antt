@@ -1,6 +1,6 @@
 -- Names and their characters, there and back.
 use Rattle.std.proofs.Common.{◌≡◌, ℕ, ◌+◌, ◌*◌, ◌/◌, ◌%◌, ◌<◌, ◌≤◌, Bool, true, false, cond, ◌&&◌, eqb, List, [], ◌∷◌, ◌++◌, map, length, get_or, take, drop, Ok, sym, refl, ap, ◌∙◌, arith}
-use Rattle.std.specs.List.{AllByRecursion as All}
+use Rattle.std.specs.List.{AllByRecursion}
 use Rattle.std.proofs.lemmas.List.{take-append-drop, drop_more, drop-drop, length-drop, take_all}
 use Rattle.std.proofs.ByRecursion.{All-append, All-get_or, All-take, All-drop}
 use Rattle.std.proofs.lemmas.Bool.{and_parts}
@@ -13,19 +13,19 @@ use Rattle.codec.proofs.Parts.{name_lawful, name_unlawful}
 abbrev Kept : ℕ → Type 0
 Kept c = character (code c) ≡ c
 
-kept_blanks : (cs : List ℕ) → all_blank cs ≡ true → All Kept cs
+kept_blanks : (cs : List ℕ) → all_blank cs ≡ true → AllByRecursion Kept cs
 unfolding all_blank
 kept_blanks [] e = tt
 kept_blanks (c ∷ cs) e =
     let (p, q) = and_parts (eqb c 32) (all_blank cs) e in
     (character-code c (rw p), kept_blanks cs q)
 
-kept_part : (cs : List ℕ) → is_part cs ≡ true → All Kept cs
+kept_part : (cs : List ℕ) → is_part cs ≡ true → AllByRecursion Kept cs
 unfolding is_part
 kept_part [] e = tt
 kept_part (c ∷ cs) e = go (eqb c 32) refl e (kept_part cs)
   where
-    go : (b : Bool) → eqb c 32 ≡ b → cond b (all_blank cs) (is_name_character c && is_part cs) ≡ true → (is_part cs ≡ true → All Kept cs) → All Kept (c ∷ cs)
+    go : (b : Bool) → eqb c 32 ≡ b → cond b (all_blank cs) (is_name_character c && is_part cs) ≡ true → (is_part cs ≡ true → AllByRecursion Kept cs) → AllByRecursion Kept (c ∷ cs)
     go true t f rest = (character-code c (rw t), kept_blanks cs f)
     go false t f rest =
         let (p, q) = and_parts (is_name_character c) (is_part cs) f in
@@ -38,7 +38,7 @@ three_at cs at h =
     = λ i j l e. drop_more cs i 0 l ∙ ap (λ m. get_or cs i 0 ∷ drop m cs) e in
     rw (next at (at + 1) (omega arith) refl, next (at + 1) (at + 2) (omega arith) (omega arith), next (at + 2) (at + 3) (omega arith) (omega arith))
 
-unpacked_rad50 : (cs : List ℕ) (at : ℕ) → at + 3 ≤ length cs → All Kept cs → unpacked (rad50_at cs at) ≡ take 3 (drop at cs)
+unpacked_rad50 : (cs : List ℕ) (at : ℕ) → at + 3 ≤ length cs → AllByRecursion Kept cs → unpacked (rad50_at cs at) ≡ take 3 (drop at cs)
 unfolding unpacked
 unpacked_rad50 cs at h k =
     let kept : (i : ℕ) → i < length cs → Kept (get_or cs i 0) = λ i l. All-get_or Kept cs i 0 l k in
@@ -62,11 +62,11 @@ pub shown_is : (n : Name) → shown n ≡ unpacked n.first ++ (unpacked n.second
 unfolding shown unpacked
 shown_is n = refl
 
-shown-packed : (cs : List ℕ) → length cs ≡ 9 → All Kept cs → shown (packed cs) ≡ cs
+shown-packed : (cs : List ℕ) → length cs ≡ 9 → AllByRecursion Kept cs → shown (packed cs) ≡ cs
 shown-packed cs h k =
     rw (shown_is, unpacked_rad50 cs 0 (omega arith) k, unpacked_rad50 cs 3 (omega arith) k, unpacked_rad50 cs 6 (omega arith) k) (threes cs h)
 
-kept_name : (cs : List ℕ) → length cs ≡ 9 → is_name cs ≡ true → All Kept cs
+kept_name : (cs : List ℕ) → length cs ≡ 9 → is_name cs ≡ true → AllByRecursion Kept cs
 unfolding is_name
 kept_name cs h e =
     let (p, q) = and_parts (is_part (take 6 cs)) _ e in
@@ -97,11 +97,11 @@ names_come_back cs n h e =
     let (t, f) = name_from cs n e in
     rw (← f) (shown-packed cs h (kept_name cs h t))
 
-told_three : (w : ℕ) → w < 64000 → All Told (codes_in w)
+told_three : (w : ℕ) → w < 64000 → AllByRecursion Told (codes_in w)
 told_three w h = (told _ (omega arith), (told _ (omega arith), (told _ (omega arith), tt)))
 
 -- a word from the characters of its codes
-word_back : (w : ℕ) → w < 64000 → All Used (codes_in w)
+word_back : (w : ℕ) → w < 64000 → AllByRecursion Used (codes_in w)
     → (code (character (w / 1600)) * 40 + code (character (w / 40 % 40))) * 40 + code (character (w % 40)) ≡ w
 word_back w h (a, (b, (c, _))) = rw (code-character _ (omega arith) a, code-character _ (omega arith) b, code-character _ (omega arith) c) (omega arith)
 

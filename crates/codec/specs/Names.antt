@@ -1,7 +1,7 @@
 -- RAD50: the code of a character, three codes to a word, three words to a name.
-use Rattle.std.specs.Prelude.{◌≡◌, ℕ, ◌+◌, ◌-◌, ◌*◌, ◌/◌, ◌%◌, ◌<◌, Bool, true, false, cond, not, ◌&&◌, ◌||◌, ◌≢◌, ◌⊎◌, List, [], ◌∷◌, ◌++◌, map, length, take, drop, Some, None, Ok, Err, codes, Option, Result, ◌==◌, nat_le, slice_index}
+use Rattle.std.specs.Prelude.{◌≡◌, ℕ, ◌+◌, ◌-◌, ◌*◌, ◌/◌, ◌%◌, ◌<◌, Bool, true, cond, not, ◌&&◌, ◌||◌, ◌≢◌, ◌⊎◌, List, [], ◌∷◌, ◌++◌, map, length, take, drop, Some, None, Ok, Err, codes, Option, Result, ◌==◌, nat_le, slice_index}
 use Rattle.std.specs.Option.{unwrap_or}
-use Rattle.std.specs.List.{AllByRecursion as All}
+use Rattle.std.specs.List.{AllByRecursion}
 use Rattle.codec.specs.declared.name.Name.{Name}
 use Rattle.codec.specs.declared.name.UnlawfulName.{UnlawfulName}
 
@@ -100,8 +100,8 @@ pub record Rad50 (n : Name) : Type 0 where
 -- what the words of a name show: nine characters, each of its code, from which the words come back
 pub record Shows (n : Name) : Type 0 where
   pub nine : length (shown n) ≡ 9
-  pub told : All Told (name_codes n)
-  pub back : All Used (name_codes n) → packed (shown n) ≡ n
+  pub told : AllByRecursion Told (name_codes n)
+  pub back : AllByRecursion Used (name_codes n) → packed (shown n) ≡ n
 
 abbrev pub WordsComeBack : Type 0
 WordsComeBack = (n : Name) → Rad50 n → Shows n

@@ -1,4 +1,6 @@
 // How numbers and text lie in the bytes of a volume.
+#![tactic(auto)]
+
 pub mod date;
 pub mod name;
 pub mod words;

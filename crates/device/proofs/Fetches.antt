@@ -1,13 +1,13 @@
 -- What is fetched of a list of blocks.
-use Rattle.std.proofs.Common.{◌≡◌, ℕ, ◌+◌, ◌-◌, ◌*◌, ◌/◌, ◌%◌, ◌<◌, ◌≤◌, min, Bool, true, false, cond, ltb, ◌⊎◌, List, [], ◌∷◌, length, get_or, drop, set, is_err, Ok, Err, Result, sym, refl, ap, ◌∙◌, subst, inl, inr, arith, length-set, ext_get_or}
+use Rattle.std.proofs.Common.{◌≡◌, ℕ, ◌+◌, ◌-◌, ◌*◌, ◌/◌, ◌%◌, ◌<◌, ◌≤◌, min, Bool, true, false, cond, ltb, ◌⊎◌, List, [], ◌∷◌, length, get_or, drop, set, is_err, Ok, Err, Result, sym, refl, ap, ◌∙◌, inl, inr, arith, length-set, ext_get_or}
 use Rattle.std.proofs.lemmas.List.{length-drop, get_or-drop}
 use Rattle.std.proofs.lemmas.Bool.{cases_eq, cond-true, cond-false, ltb-true, ltb-false, lt-ltb, le-ltb}
 use Rattle.device.specs.declared.fault.DeviceFault.{DeviceFault}
 use Rattle.device.specs.declared.fault.DeviceFault.TheVariants.{PastEnd, BadBlock}
-use Rattle.device.specs.Blocks.{Block, none, good, Whole, is_bad, byte, made, table}
+use Rattle.device.specs.Blocks.{Block, none, good, is_bad, byte, table}
 use Rattle.device.specs.Stacks.{Stack, shown, put}
 use Rattle.device.specs.Images.{laid, Stored, listed, image, image_blocks}
-use Rattle.device.specs.Fixed.{Fixed, fixed_image}
+use Rattle.device.specs.Fixed.{fixed_image}
 use Rattle.device.specs.Answers.{fetch, answered, filled, stored}
 use Rattle.device.specs.Tables.{length-table, get_or-table, length-made, get_or-made, whole_made}
 use Rattle.device.proofs.Made.{bad_made, byte-made, same_blocks, byte-set_same, byte-set_other, bad_set, whole_set}

@@ -1,7 +1,7 @@
 -- The laws of layers and piles.
-use Rattle.std.proofs.Common.{◌≡◌, ℕ, ◌+◌, ◌*◌, ◌/◌, ◌%◌, ◌<◌, ◌≤◌, Bool, true, false, ◌⊎◌, List, [], ◌∷◌, length, get_or, set, sym, refl, ap, ◌∙◌, subst, inl, inr, arith, length-set}
-use Rattle.device.specs.Blocks.{Block, none, Whole, is_bad, byte, table, made, any}
-use Rattle.device.specs.Stacks.{Layer, seen, kept, landed, seen_all, kept_all, counts, down, Stack, shown, put, Fitting}
+use Rattle.std.proofs.Common.{◌≡◌, ℕ, ◌+◌, ◌*◌, ◌/◌, ◌<◌, ◌⊎◌, List, [], ◌∷◌, length, set, sym, refl, ap, ◌∙◌, subst, inl, inr, arith, length-set}
+use Rattle.device.specs.Blocks.{Block, Whole, is_bad, byte, any}
+use Rattle.device.specs.Stacks.{Layer, seen, kept, seen_all, kept_all, counts, down, Fitting}
 use Rattle.device.specs.Tables.{length-made, whole_made}
 use Rattle.device.proofs.Made.{any_same, bad_made, byte-made, same_blocks, landed_hit, landed_miss, placed, bad_set, whole_set}
 

@@ -1,11 +1,11 @@
 -- The steps of a proof above every pile: what a stack became, by the blocks alone.
-use Rattle.std.proofs.Common.{◌≡◌, ℕ, ◌<◌, ◌≤◌, Bool, true, false, cond, ltb, List, [], length, get_or, set, Ok, Err, Result, sym, refl, ap, ◌∙◌, subst, arith, length-set}
+use Rattle.std.proofs.Common.{◌≡◌, ℕ, ◌<◌, Bool, true, false, cond, ltb, List, length, get_or, set, Ok, Err, Result, sym, refl, ap, ◌∙◌, subst, length-set}
 use Rattle.std.proofs.lemmas.Bool.{ltb-true}
 use Rattle.device.specs.declared.fault.DeviceFault.{DeviceFault}
 use Rattle.device.specs.declared.fault.DeviceFault.TheVariants.{PastEnd, BadBlock}
 use Rattle.device.specs.Blocks.{Block, none, good, Whole, is_bad}
-use Rattle.device.specs.Stacks.{Stack, shown, put, Fitting, Became}
-use Rattle.device.specs.Answers.{fetch, answered, filled, stored}
+use Rattle.device.specs.Stacks.{Stack, shown, put, Became}
+use Rattle.device.specs.Answers.{fetch, answered, stored}
 use Rattle.device.proofs.Lens.{seen-kept_all, kept-seen_all, kept-kept_all, whole_seen_all}
 use Rattle.device.proofs.Made.{bad_set, whole_set}
 use Rattle.device.proofs.Fetches.{ok_err, fetched_err}

@@ -1,5 +1,5 @@
 -- What a device answers.
-use Rattle.std.specs.Prelude.{◌≡◌, ℕ, cond, List, length, Ok, Err, Result, nat_lt, slice_index_or, slice_set}
+use Rattle.std.specs.Prelude.{ℕ, cond, List, length, Ok, Err, Result, nat_lt, slice_index_or, slice_set}
 use Rattle.device.specs.Blocks.{Block, none, good}
 use Rattle.device.specs.Stacks.{Stack, shown, put}
 use Rattle.device.specs.declared.fault.DeviceFault.{DeviceFault}

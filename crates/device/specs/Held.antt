@@ -1,10 +1,10 @@
 -- A stack that a device may hold: its blocks whole, and what it shows within the limit.
-use Rattle.std.specs.Prelude.{ℕ, ◌*◌, ◌/◌, ◌≤◌, min, Bool, false, List, [], length, slice_index}
+use Rattle.std.specs.Prelude.{ℕ, ◌≤◌, false, List, length, slice_index}
 use Rattle.std.proofs.Common.{arith}
-use Rattle.device.specs.Blocks.{Block, Whole, made}
+use Rattle.device.specs.Blocks.{Block, Whole}
 use Rattle.device.specs.Tables.{length-made, whole_made}
 use Rattle.device.specs.Stacks.{Stack, shown}
-use Rattle.device.specs.Images.{image, image_blocks, scratch, laid, listed}
+use Rattle.device.specs.Images.{image, image_blocks, scratch, listed}
 
 pub record Held : Type 0 where
   pub stack : Stack

@@ -1,5 +1,5 @@
 -- Blocks that lie in memory.
-use Rattle.std.specs.Prelude.{◌≡◌, ℕ, ◌+◌, ◌-◌, ◌*◌, ◌/◌, ◌<◌, ◌≤◌, min, Bool, true, false, List, [], length, nat_eq, slice_index}
+use Rattle.std.specs.Prelude.{◌≡◌, ℕ, ◌+◌, ◌*◌, ◌/◌, ◌<◌, ◌≤◌, min, Bool, false, List, [], length, nat_eq, slice_index}
 use Rattle.device.specs.Blocks.{Block, made, any}
 use Rattle.device.specs.Stacks.{Stack}
 

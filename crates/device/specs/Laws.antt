@@ -1,7 +1,7 @@
 -- The laws of piles, as statements.
 use Rattle.std.specs.Prelude.{◌≡◌, ℕ, ◌*◌, ◌<◌, List, length, ◌≢◌}
 use Rattle.device.specs.Blocks.{Block, Whole, byte}
-use Rattle.device.specs.Stacks.{Stack, shown, put, Fitting, counts, down}
+use Rattle.device.specs.Stacks.{Stack, shown, put, Fitting, down}
 
 pub record PileLaws : Type 0 where
   pub put_shown : (s : Stack) → Whole s.bottom → put s (shown s) ≡ s

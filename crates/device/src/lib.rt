@@ -1,4 +1,6 @@
 // Devices: lists of blocks, each bad or good with 512 bytes. The trait, its two bottoms, and the laws of every pile of layers.
+#![tactic(auto)]
+
 ghost use Rattle.std.specs.Prelude.{◌≡◌, ℕ, ◌+◌, ◌<◌, ◌≤◌, length};
 ghost use Rattle.device.specs.Held.{Held, shows};
 ghost use Rattle.device.specs.Fixed.{Fixed};

@@ -1,6 +1,6 @@
 -- The first broken rule, by where the test ends.
-use Rattle.std.proofs.Common.{◌≡◌, ℕ, ◌+◌, ◌*◌, ◌≤◌, min, Bool, true, false, cond, List, length, take, Some, None, Option, sym, refl, ap, ◌∙◌, arith, length-take}
-use Rattle.std.specs.List.{AllByRecursion as All}
+use Rattle.std.proofs.Common.{◌≡◌, ℕ, ◌+◌, ◌*◌, ◌≤◌, Bool, true, false, List, length, take, Some, None, Option, sym, ap, ◌∙◌, arith, length-take}
+use Rattle.std.specs.List.{AllByRecursion}
 use Rattle.std.proofs.ByRecursion.{All-weaker}
 use Rattle.std.proofs.lemmas.Bool.{cond-true, cond-false}
 use Rattle.codec.specs.Words.{word_at}
@@ -33,7 +33,7 @@ module _ (dir : List ℕ) (v : ℕ) (o : Option Pending) (h s : ℕ) (hp : h ≡
       ap (λ (z : ℕ). broken_along z dir v (6 + 2 * s) o ks) xp ∙ ap (λ (z : ℕ). broken_along (word_at dir 6) dir v (6 + 2 * z) o ks) sp ∙ sym (by_chain e (Some ks) q)
 
 -- segments of 1 to h lie in a directory of at least h
-pub in_range : (n h : ℕ) → 1024 * h ≤ n → (ks : List ℕ) → All (λ k. (1 ≤ k) × (k ≤ h)) ks → All (λ k. (1 ≤ k) × (1024 * k ≤ n)) ks
+pub in_range : (n h : ℕ) → 1024 * h ≤ n → (ks : List ℕ) → AllByRecursion (λ k. (1 ≤ k) × (k ≤ h)) ks → AllByRecursion (λ k. (1 ≤ k) × (1024 * k ≤ n)) ks
 in_range n h l ks a = All-weaker (λ k. (1 ≤ k) × (k ≤ h)) (λ k. (1 ≤ k) × (1024 * k ≤ n)) (λ k p. (p.0, omega (arith, p.1))) ks a
 
 pub few_taken : (n : ℕ) (ks : List ℕ) → length (take n ks) ≤ n

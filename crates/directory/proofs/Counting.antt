@@ -1,15 +1,14 @@
 -- How many entries and blocks a chain can have.
-use Rattle.std.proofs.Common.{◌≡◌, ℕ, zero, suc, ◌+◌, ◌-◌, ◌*◌, ◌/◌, ◌<◌, ◌≤◌, ◌⊎◌, List, [], ◌∷◌, ◌++◌, length, get_or, drop, sym, refl, ap, ◌∙◌, inl, inr, append-nil, div-mul-le_self, arith}
+use Rattle.std.proofs.Common.{◌≡◌, ℕ, suc, ◌+◌, ◌*◌, ◌/◌, ◌<◌, ◌≤◌, ◌⊎◌, List, [], ◌∷◌, length, refl, ap, ◌∙◌, inl, inr, append-nil, div-mul-le_self, arith}
 use Rattle.std.proofs.lemmas.Nat.{mul-le}
 use Rattle.std.proofs.lemmas.Bool.{cases_lt}
-use Rattle.std.specs.List.{AllByRecursion as All}
+use Rattle.std.specs.List.{AllByRecursion}
 use Rattle.std.proofs.lemmas.List.{length-append}
 use Rattle.volume.specs.declared.entry.Entry.{Entry}
 use Rattle.volume.specs.Segments.{capacity_of}
 use Rattle.segment.specs.Chains.{segment_at}
 use Rattle.segment.specs.Directories.{entries_at}
 use Rattle.segment.proofs.Walks.{segment_few}
-use Rattle.directory.specs.declared.placed.Placed.{Placed}
 use Rattle.directory.specs.Walks.{spot, blocks_of, placed_in, left_from, left, Readable, OnWay}
 use Rattle.directory.specs.Finds.{blocks_in}
 use Rattle.directory.proofs.Walking.{entries_read}
@@ -29,7 +28,7 @@ length-placed k i at (e ∷ es) = ap suc (length-placed k (i + 1) (at + e.length
 pub few : (x : ℕ) (dir : List ℕ) (k : ℕ) → Readable x dir k → length (entries_at x dir k) ≤ 72
 few x dir k r = omega (arith, most x, segment_few x (segment_at dir k) (entries_at x dir k) (entries_read x dir k r.2))
 
-pub left_few : (x : ℕ) (dir : List ℕ) (at : ℕ) (ks : List ℕ) → All (Readable x dir) ks → length (left_from x dir 0 at ks) ≤ 72 * length ks
+pub left_few : (x : ℕ) (dir : List ℕ) (at : ℕ) (ks : List ℕ) → AllByRecursion (Readable x dir) ks → length (left_from x dir 0 at ks) ≤ 72 * length ks
 unfolding left_from
 left_few x dir at [] a = omega arith
 left_few x dir at (k ∷ ks) a =
@@ -43,7 +42,7 @@ left_few x dir at (k ∷ ks) a =
     )
 
 -- the whole chain can be walked
-pub on_whole : (x : ℕ) (dir ks : List ℕ) (at : ℕ) → All (Readable x dir) ks → length ks ≤ 31 → at ≤ 65535 → OnWay x dir ks (spot 0 0 at)
+pub on_whole : (x : ℕ) (dir ks : List ℕ) (at : ℕ) → AllByRecursion (Readable x dir) ks → length ks ≤ 31 → at ≤ 65535 → OnWay x dir ks (spot 0 0 at)
 on_whole x dir ks at a n l = record { all = a; inside = λ h. omega arith; bound = omega (arith, left_few x dir at ks a) }
 
 blocks_placed : (k i at : ℕ) (es : List Entry) → blocks_in (placed_in k i at es) ≡ blocks_of es

@@ -1,9 +1,9 @@
 -- One entry more or none, for each question.
-use Rattle.std.proofs.Common.{◌≡◌, ℕ, ◌+◌, Bool, true, false, cond, not, ◌&&◌, ◌||◌, List, [], ◌∷◌, Some, None, Option, sym, refl, ap, ◌∙◌}
+use Rattle.std.proofs.Common.{◌≡◌, ◌+◌, Bool, true, false, cond, ◌&&◌, List, [], ◌∷◌, Some, None, ap, ◌∙◌}
 use Rattle.std.proofs.lemmas.Bool.{cond-true, cond-false}
 use Rattle.codec.specs.declared.name.Name.{Name}
 use Rattle.directory.specs.declared.placed.Placed.{Placed}
-use Rattle.directory.specs.Finds.{is_file, is_tentative, is_named, first_named, tentatives, blocks_in, well_named, all_well_named, alone, all_apart}
+use Rattle.directory.specs.Finds.{is_tentative, is_named, first_named, tentatives, blocks_in, well_named, all_well_named, alone, all_apart}
 
 module _ (n : Name) (l : List Placed) {p : Placed} {r : List Placed} (e : l ≡ p ∷ r) where
   pub named : is_named n p ≡ true → first_named n l ≡ Some p

@@ -1,13 +1,12 @@
 -- What the rules say of the chain of a sound directory.
-use Rattle.std.proofs.Common.{◌≡◌, ℕ, ◌+◌, ◌*◌, ◌<◌, ◌≤◌, Bool, true, false, cond, ◌&&◌, leb, List, [], length, Some, None, Option, unwrap_or, sym, refl, ap, ◌∙◌, subst, arith}
-use Rattle.std.specs.List.{AllByRecursion as All}
+use Rattle.std.proofs.Common.{◌≡◌, ℕ, ◌+◌, ◌*◌, ◌<◌, ◌≤◌, Bool, true, false, cond, leb, List, [], length, Some, None, Option, unwrap_or, refl, ap, ◌∙◌, arith}
+use Rattle.std.specs.List.{AllByRecursion}
 use Rattle.std.proofs.lemmas.Bool.Decides.{nat_tests}
 use Rattle.codec.specs.Words.{word_at}
 use Rattle.segment.specs.Chains.{next_of, chain_from}
 use Rattle.segment.specs.Directories.{chain_of}
-use Rattle.directory.specs.declared.pending.Pending.{Pending}
 use Rattle.directory.specs.Walks.{spot, Readable, OnWay}
-use Rattle.directory.specs.Rules.{in_use, every, extra_sound, lawful_at, broken_late, broken_along, broken_by, broken_rule}
+use Rattle.directory.specs.Rules.{in_use, every, extra_sound, lawful_at, broken_along, broken_by, broken_rule}
 use Rattle.directory.specs.Sounds.{SoundBytes}
 use Rattle.directory.proofs.Tests.{all_both}
 use Rattle.directory.proofs.Counting.{on_whole}
@@ -40,12 +39,12 @@ module _ (dir : List ℕ) (s : SoundBytes dir) where
     unfolding broken_along
     sound = let a = both _ _ 5 (omega arith) along in (a.0, (both _ _ 6 (omega arith) a.1).0)
 
-    pub readable : All (λ k. (1 ≤ k) × (k ≤ word_at dir 4)) ks → All (Readable (word_at dir 6) dir) ks
+    pub readable : AllByRecursion (λ k. (1 ≤ k) × (k ≤ word_at dir 4)) ks → AllByRecursion (Readable (word_at dir 6) dir) ks
     readable a =
         all_both (λ k. (1 ≤ k) × (1024 * k ≤ length dir)) (lawful_at (word_at dir 6) dir) (Readable (word_at dir 6) dir) (λ k p r. (p.0, p.1, r)) ks
         (in_range (length dir) (word_at dir 4) (omega (arith, highest, s.long)) ks a) sound.1
 
-    pub on_chain : All (λ k. (1 ≤ k) × (k ≤ word_at dir 4)) ks → length ks ≤ 31 → OnWay (word_at dir 6) dir ks (spot 0 0 (6 + 2 * word_at dir 0))
+    pub on_chain : AllByRecursion (λ k. (1 ≤ k) × (k ≤ word_at dir 4)) ks → length ks ≤ 31 → OnWay (word_at dir 6) dir ks (spot 0 0 (6 + 2 * word_at dir 0))
     on_chain a l = on_whole (word_at dir 6) dir ks (6 + 2 * word_at dir 0) (readable a) l (omega (arith, s.few))
 
     pub chain_is : ks ≡ chain_of dir

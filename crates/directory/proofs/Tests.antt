@@ -1,6 +1,6 @@
 -- A test of each element, element by element.
 use Rattle.std.proofs.Common.{◌≡◌, ℕ, ◌+◌, ◌<◌, ◌≤◌, Bool, true, false, ◌&&◌, ◌||◌, eqb, List, [], ◌∷◌, length, get_or, drop, is_some, Some, None, Option, refl, ◌∙◌, subst}
-use Rattle.std.specs.List.{AllByRecursion as All}
+use Rattle.std.specs.List.{AllByRecursion}
 use Rattle.std.proofs.lemmas.List.{at_drop_more, at_drop_all}
 use Rattle.std.specs.Option.{option_map}
 use Rattle.std.proofs.lemmas.Bool.{eq-eqb, ne_eqb, eqb-true, false≢true}
@@ -32,7 +32,7 @@ module _ (k : ℕ) (ks : List ℕ) (i : ℕ) where
   meets-none h = at_drop_all (meets k) ks i h
 
 -- a segment that a chain meets is as all of them
-pub meets_all : (P : ℕ → Type 0) (k : ℕ) (ks : List ℕ) → meets k ks ≡ true → All P ks → P k
+pub meets_all : (P : ℕ → Type 0) (k : ℕ) (ks : List ℕ) → meets k ks ≡ true → AllByRecursion P ks → P k
 meets_all P k [] h a = absurd (false≢true h)
 meets_all P k (j ∷ js) h a = go (eqb j k) refl h (λ q. meets_all P k js q a.1)
   where
@@ -41,10 +41,10 @@ meets_all P k (j ∷ js) h a = go (eqb j k) refl h (λ q. meets_all P k js q a.1
     go false e q r = r q
 
 -- two facts of each are one
-pub all_both : (P : ℕ → Type 0) (p : ℕ → Bool) (Q : ℕ → Type 0) → ((k : ℕ) → P k → p k ≡ true → Q k) → (ks : List ℕ) → All P ks → every p ks ≡ true → All Q ks
+pub all_both : (P : ℕ → Type 0) (p : ℕ → Bool) (Q : ℕ → Type 0) → ((k : ℕ) → P k → p k ≡ true → Q k) → (ks : List ℕ) → AllByRecursion P ks → every p ks ≡ true → AllByRecursion Q ks
 all_both P p Q f [] a h = tt
 all_both P p Q f (k ∷ ks) a h = go (p k) refl h (λ q. all_both P p Q f ks a.1 q)
   where
-    go : (t : Bool) → p k ≡ t → (t && every p ks) ≡ true → (every p ks ≡ true → All Q ks) → Q k × All Q ks
+    go : (t : Bool) → p k ≡ t → (t && every p ks) ≡ true → (every p ks ≡ true → AllByRecursion Q ks) → Q k × AllByRecursion Q ks
     go true e q r = (f k a.0 e, r q)
     go false e q r = absurd (false≢true q)

@@ -1,8 +1,6 @@
 -- One step along the chain.
-use Rattle.std.proofs.Common.{◌≡◌, ℕ, zero, suc, ◌+◌, ◌-◌, ◌*◌, ◌<◌, ◌≤◌, Bool, true, false, cond, eqb, ◌⊎◌, List, [], ◌∷◌, ◌++◌, map, length, get_or, drop, is_some, Some, None, Option, unwrap_or, sym, refl, ap, ◌∙◌, subst, inl, inr, add-zero, add_assoc, arith}
-use Rattle.std.specs.List.{AllByRecursion as All}
-use Rattle.std.specs.Option.{option_map}
-use Rattle.std.proofs.lemmas.List.{drop_all, drop_more, length-append}
+use Rattle.std.proofs.Common.{◌≡◌, ℕ, zero, suc, ◌+◌, ◌-◌, ◌<◌, ◌≤◌, Bool, true, false, cond, eqb, ◌⊎◌, List, [], ◌∷◌, ◌++◌, map, length, get_or, drop, is_some, Some, None, Option, unwrap_or, sym, refl, ap, ◌∙◌, subst, inl, inr, add-zero, add_assoc, arith}
+use Rattle.std.proofs.lemmas.List.{drop_all, drop_more}
 use Rattle.std.proofs.ByRecursion.{All-get_or}
 use Rattle.std.proofs.lemmas.Bool.{cases_lt, eqb-true}
 use Rattle.codec.specs.Words.{word_at}
@@ -18,7 +16,6 @@ use Rattle.segment.specs.Directories.{entries_at}
 use Rattle.segment.proofs.Fields.{word_here, Fields}
 use Rattle.segment.proofs.Walks.{front, segment_walked, segment_few, fields_at}
 use Rattle.directory.specs.declared.placed.Placed.{Placed}
-use Rattle.directory.specs.declared.placed.Spot.{Spot}
 use Rattle.directory.specs.Walks.{placed, spot, blocks_of, placed_in, left_from, left, chained_from, chained, Readable, OnWay}
 
 -- nothing is left of a segment at its end word only
@@ -198,3 +195,7 @@ module _ (x : ℕ) (dir ks : List ℕ) (p i at : ℕ) (w : OnWay x dir ks (spot 
 pub none_left : (x : ℕ) (dir ks : List ℕ) (p i at : ℕ) → length ks ≤ p → left x dir ks (spot p i at) ≡ []
 unfolding left_from
 none_left x dir ks p i at h = ap (left_from x dir i at) (drop_all p ks h)
+
+pub none_chained : (x : ℕ) (dir ks : List ℕ) (p i at : ℕ) → length ks ≤ p → chained x dir ks (spot p i at) ≡ []
+unfolding chained_from
+none_chained x dir ks p i at h = ap (chained_from x dir p i at) (drop_all p ks h)

@@ -3,7 +3,6 @@ use Rattle.std.specs.Prelude.{ℕ, ◌+◌, ◌*◌, ◌%◌, Bool, true, false,
 use Rattle.codec.specs.Words.{word_at}
 use Rattle.volume.specs.declared.entry.Entry.{Entry}
 use Rattle.device.specs.Blocks.{any}
-use Rattle.volume.specs.Levels.{segments_fit}
 use Rattle.segment.specs.Segments.{entry_start, segment_entries}
 use Rattle.segment.specs.Chains.{segment_at, next_of, chain_from}
 use Rattle.segment.specs.Directories.{entries_at}

@@ -1,6 +1,6 @@
 -- The entries of a directory in chain order, each in its place.
 use Rattle.std.specs.Prelude.{◌≡◌, ℕ, ◌+◌, ◌*◌, ◌<◌, ◌≤◌, true, List, [], ◌∷◌, ◌++◌, map, length, drop, is_some, Some, None, Option, slice_index}
-use Rattle.std.specs.List.{AllByRecursion as All}
+use Rattle.std.specs.List.{AllByRecursion}
 use Rattle.volume.specs.declared.entry.Entry.{Entry}
 use Rattle.segment.specs.Segments.{segment_entries}
 use Rattle.segment.specs.Chains.{segment_at}
@@ -52,7 +52,7 @@ Readable x dir k = (1 ≤ k) × (1024 * k ≤ length dir) × (is_some (segment_e
 
 -- a spot from which the chain can be walked; starts stay far below 2 ^ 32
 pub record OnWay (x : ℕ) (dir ks : List ℕ) (s : Spot) : Type 0 where
-  pub all : All (Readable x dir) ks
+  pub all : AllByRecursion (Readable x dir) ks
   pub inside : s.place < length ks → s.index ≤ length (entries_at x dir (slice_index ks s.place))
   pub bound : s.start + 65535 * length (left x dir ks s) ≤ 200000000
 

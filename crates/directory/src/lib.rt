@@ -1,4 +1,6 @@
 // The directory in the workspace: its entries in chain order, and the rules of a sound level.
+#![tactic(auto)]
+
 pub mod find;
 pub mod pending;
 pub mod placed;

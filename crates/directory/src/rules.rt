@@ -1,6 +1,6 @@
 // The rules of a sound level.
 ghost use Rattle.std.specs.Prelude.{◌≡◌, ℕ, ◌+◌, ◌*◌, ◌<◌, ◌≤◌, Bool, true, length};
-ghost use Rattle.std.specs.List.{AllByRecursion as All};
+ghost use Rattle.std.specs.List.{AllByRecursion};
 ghost use Rattle.codec.specs.Words.{word_at};
 ghost use Rattle.segment.specs.Chains.{segment_at, order_of};
 ghost use Rattle.segment.specs.Directories.{entries_at};
@@ -23,7 +23,7 @@ fn has_extra(dir: &[u8], k: usize, extra: u16) -> bool
 }
 
 fn same_extra(dir: &[u8], order: &[usize], extra: u16) -> bool
-    requires { All (λ k. (1 ≤ k) × (1024 * k ≤ length dir.now)) order.now }
+    requires { AllByRecursion (λ k. (1 ≤ k) × (1024 * k ≤ length dir.now)) order.now }
     ensures { result ≡ every (same_extra extra dir.now) order.now }
 {
     for k in order {
@@ -36,7 +36,7 @@ fn same_extra(dir: &[u8], order: &[usize], extra: u16) -> bool
 
 // Rule 5.
 fn extra_sound(dir: &[u8], order: &[usize], extra: u16) -> bool
-    requires { All (λ k. (1 ≤ k) × (1024 * k ≤ length dir.now)) order.now }
+    requires { AllByRecursion (λ k. (1 ≤ k) × (1024 * k ≤ length dir.now)) order.now }
     ensures { result ≡ extra_sound extra dir.now order.now }
 {
     extra % 2 == 0 && extra <= 64 && same_extra(dir, order, extra)
@@ -51,7 +51,7 @@ fn is_lawful(dir: &[u8], k: usize, extra: u16) -> bool
 
 // Rule 6, segment by segment.
 fn all_lawful(dir: &[u8], order: &[usize], extra: u16) -> bool
-    requires { All (λ k. (1 ≤ k) × (1024 * k ≤ length dir.now)) order.now }
+    requires { AllByRecursion (λ k. (1 ≤ k) × (1024 * k ≤ length dir.now)) order.now }
     ensures { result ≡ every (lawful_at extra dir.now) order.now }
 {
     for k in order {
@@ -82,7 +82,7 @@ fn blocks_in(dir: &[u8], k: usize, extra: u16) -> u32
 
 // Rule 7.
 fn contiguous(dir: &[u8], order: &[usize], extra: u16, first: u32, blocks: u32) -> bool
-    requires { (All (Readable extra dir.now) order.now) × ((length order.now ≤ 31) × (first ≤ 65535)) }
+    requires { (AllByRecursion (Readable extra dir.now) order.now) × ((length order.now ≤ 31) × (first ≤ 65535)) }
     ensures { result ≡ contiguous_from extra dir.now blocks first order.now }
 {
     let mut at = first;
@@ -141,7 +141,7 @@ fn entries_stand(segment: &[u8], extra: u16, index: usize, entries: &[u8]) -> bo
 
 // Rule 6 of an open output.
 fn pending_stands(dir: &[u8], order: &[usize], extra: u16, output: Pending) -> bool
-    requires { (All (Readable extra dir.now) order.now) × (extra ≤ 64) }
+    requires { (AllByRecursion (Readable extra dir.now) order.now) × (extra ≤ 64) }
     ensures { result ≡ pending_stands extra dir.now order.now output }
 {
     if !meets(order, output.segment) {
@@ -157,7 +157,7 @@ fn pending_stands(dir: &[u8], order: &[usize], extra: u16, output: Pending) -> b
 
 // Rule 6 of the tentative entries: none but that of an open output.
 fn open_stands(dir: &[u8], order: &[usize], extra: u16, first: u32, output: Option<Pending>) -> bool
-    requires { (All (Readable extra dir.now) order.now) × ((extra ≤ 64) × ((length order.now ≤ 31) × (first ≤ 65535))) }
+    requires { (AllByRecursion (Readable extra dir.now) order.now) × ((extra ≤ 64) × ((length order.now ≤ 31) × (first ≤ 65535))) }
     ensures { result ≡ open_stands extra dir.now order.now output (all_placed extra dir.now order.now first) }
 {
     let count = count_tentative(dir, order, extra, first_spot(first));
@@ -187,7 +187,7 @@ fn broken_late(
     blocks: u32,
     output: Option<Pending>,
 ) -> u8
-    requires { (All (Readable extra dir.now) order.now) × ((extra ≤ 64) × ((length order.now ≤ 31) × (first ≤ 65535))) }
+    requires { (AllByRecursion (Readable extra dir.now) order.now) × ((extra ≤ 64) × ((length order.now ≤ 31) × (first ≤ 65535))) }
     ensures { result ≡ broken_late extra dir.now blocks first output order.now }
 {
     if !open_stands(dir, order, extra, first, output) {
@@ -214,7 +214,7 @@ fn broken_along(
     blocks: u32,
     output: Option<Pending>,
 ) -> u8
-    requires { (All (λ k. (1 ≤ k) × (1024 * k ≤ length dir.now)) order.now) × ((length order.now ≤ 31) × (first ≤ 65535)) }
+    requires { (AllByRecursion (λ k. (1 ≤ k) × (1024 * k ≤ length dir.now)) order.now) × ((length order.now ≤ 31) × (first ≤ 65535)) }
     ensures { result ≡ broken_along extra dir.now blocks first output order.now }
 {
     if !extra_sound(dir, order, extra) {

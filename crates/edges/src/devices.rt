@@ -25,15 +25,19 @@ pub fn refuses_past<D: Device>(rt: &impl Abort, d: &mut D, size: u32) {
 }
 
 // An image of so many blocks, of which a write of the last changes no byte behind it.
-fn try_image(rt: &impl Abort, memory: &mut [u8], blocks: u32) -> Result<(), Fail> {
+fn try_image(rt: &impl Abort, memory: &mut [u8], blocks: u32) {
+    let bytes = memory.len();
     let mut image = Image::over(memory, &[]);
     refuses_past(rt, &mut image, blocks);
-    assert!(rt; untouched(image.bytes()));
+    assert!(rt; untouched(image.bytes()), "{}", bytes);
     if blocks > 0 {
-        assert_eq!(rt; image.write(blocks - 1, &[0x5A; 512]), Ok(()));
-        assert!(rt; replaced(image.bytes(), 512 * (blocks as usize - 1), &[0x5A; 512]));
+        assert_eq!(rt; image.write(blocks - 1, &[0x5A; 512]), Ok(()), "{}", bytes);
+        assert!(rt;
+            replaced(image.bytes(), 512 * (blocks as usize - 1), &[0x5A; 512]),
+            "{}",
+            bytes
+        );
     }
-    Ok(())
 }
 
 #[test]
@@ -48,7 +52,7 @@ fn images_of_every_size(rt: HostRuntime) -> Result<(), Fail> {
         (51_207, 100),
     ] {
         let mut memory = patterned(rt.alloc(), bytes)?;
-        try_image(&rt, memory.as_mut_slice(), blocks).note(bytes)?;
+        try_image(&rt, memory.as_mut_slice(), blocks);
     }
     Ok(())
 }

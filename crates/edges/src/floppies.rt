@@ -62,19 +62,19 @@ fn put_block(memory: &mut [u8], b: u16, bytes: &[u8; 512]) {
 }
 
 // A floppy over this memory has this standing and shows so many blocks.
-fn try_standing(rt: &impl Abort, memory: &mut [u8], standing: u8, blocks: u32) -> Result<(), Fail> {
+fn try_standing(rt: &impl Abort, memory: &mut [u8], standing: u8, blocks: u32) {
+    let bytes = memory.len();
     let mut floppy = Floppy::over(Image::over(memory, &[]));
-    assert_eq!(rt; floppy.standing().number(), standing);
+    assert_eq!(rt; floppy.standing().number(), standing, "{}", bytes);
     refuses_past(rt, &mut floppy, blocks);
-    assert!(rt; untouched(floppy.below().bytes()));
-    Ok(())
+    assert!(rt; untouched(floppy.below().bytes()), "{}", bytes);
 }
 
 #[test]
 fn standing_over_501_blocks(rt: HostRuntime) -> Result<(), Fail> {
     for (below, standing, blocks) in [(0, 3, 0), (500, 3, 0), (501, 0, 494), (502, 0, 494)] {
         let mut memory = patterned(rt.alloc(), 512 * below + 511)?;
-        try_standing(&rt, memory.as_mut_slice(), standing, blocks).note(below)?;
+        try_standing(&rt, memory.as_mut_slice(), standing, blocks);
     }
     // track 1 sector 2, track 2 sector 7, track 76 sector 8
     assert_eq!(rt; sector_at(13), 27 * 128);
@@ -114,7 +114,7 @@ fn sectors_land(rt: HostRuntime) -> Result<(), Fail> {
 }
 
 // One bad block below makes those blocks bad that have a sector in it, and no refused write changes a byte.
-fn try_bad(rt: &impl Abort, memory: &mut [u8], bad: u32) -> Result<(), Fail> {
+fn try_bad(rt: &impl Abort, memory: &mut [u8], bad: u32) {
     let list = [bad];
     let mut floppy = Floppy::over(Image::over(memory, &list));
     for b in 0..494u16 {
@@ -123,39 +123,33 @@ fn try_bad(rt: &impl Abort, memory: &mut [u8], bad: u32) -> Result<(), Fail> {
             refuses(rt, &mut floppy, block, DeviceFault::BadBlock(block), 2);
         } else {
             let mut buffer = [0; 512];
-            assert_eq!(rt; floppy.read(block, &mut buffer), Ok(()), "{}", b);
+            assert_eq!(rt; floppy.read(block, &mut buffer), Ok(()), "{}; {}", bad, b);
         }
     }
-    assert!(rt; untouched(floppy.below().bytes()));
-    Ok(())
+    assert!(rt; untouched(floppy.below().bytes()), "{}", bad);
 }
 
 #[test]
 fn a_bad_block_below(rt: HostRuntime) -> Result<(), Fail> {
     let mut memory = patterned(rt.alloc(), 512 * 502)?;
     for bad in 0..502 {
-        try_bad(&rt, memory.as_mut_slice(), bad).note(bad)?;
+        try_bad(&rt, memory.as_mut_slice(), bad);
     }
     Ok(())
 }
 
 // A read asks each block below once. A write asks each to be read twice at most, and to be written once.
-fn try_counted<D: Device>(
-    rt: &impl Abort,
-    floppy: &mut Floppy<Counting<D>>,
-    b: u16,
-) -> Result<(), Fail> {
+fn try_counted<D: Device>(rt: &impl Abort, floppy: &mut Floppy<Counting<D>>, b: u16) {
     let blocks = distinct(blocks_below(b));
     let mut buffer = [0; 512];
     floppy.below().reset();
-    assert_eq!(rt; (*floppy).read(u32::from(b), &mut buffer), Ok(()));
-    assert_eq!(rt; floppy.below().reads(), blocks);
-    assert_eq!(rt; floppy.below().writes(), 0);
+    assert_eq!(rt; (*floppy).read(u32::from(b), &mut buffer), Ok(()), "{}", b);
+    assert_eq!(rt; floppy.below().reads(), blocks, "{}", b);
+    assert_eq!(rt; floppy.below().writes(), 0, "{}", b);
     floppy.below().reset();
-    assert_eq!(rt; (*floppy).write(u32::from(b), &buffer), Ok(()));
-    assert!(rt; floppy.below().reads() <= 2 * blocks);
-    assert_eq!(rt; floppy.below().writes(), blocks);
-    Ok(())
+    assert_eq!(rt; (*floppy).write(u32::from(b), &buffer), Ok(()), "{}", b);
+    assert!(rt; floppy.below().reads() <= 2 * blocks, "{}", b);
+    assert_eq!(rt; floppy.below().writes(), blocks, "{}", b);
 }
 
 #[test]
@@ -163,7 +157,7 @@ fn reads_and_writes_counted(rt: HostRuntime) -> Result<(), Fail> {
     let mut memory = patterned(rt.alloc(), 512 * 501)?;
     let mut floppy = Floppy::over(Counting::over(Image::over(memory.as_mut_slice(), &[])));
     for b in 0..494 {
-        try_counted(&rt, &mut floppy, b).note(b)?;
+        try_counted(&rt, &mut floppy, b);
     }
     Ok(())
 }

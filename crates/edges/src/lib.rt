@@ -1,5 +1,7 @@
 // The packer tried at the edges of its input. Each expected result is worked out from the rules of the device, the volume or the
 // run, and not taken from the program.
+#![tactic(auto)]
+
 #[cfg(test)]
 mod counting;
 #[cfg(test)]

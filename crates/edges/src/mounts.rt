@@ -19,16 +19,10 @@ fn number(answer: Result<(), LevelFault>) -> u8 {
 }
 
 // So many containers are mounted, and the deepest level has so many blocks.
-fn shows<D: Device>(
-    rt: &impl Abort,
-    levels: &mut Levels<D>,
-    depth: usize,
-    blocks: u32,
-) -> Result<(), Fail> {
-    assert_eq!(rt; levels.standing().number(), 0);
-    assert_eq!(rt; levels.depth(), depth);
+fn shows<D: Device>(rt: &impl Abort, levels: &mut Levels<D>, depth: usize, blocks: u32) {
+    assert_eq!(rt; levels.standing().number(), 0, "{}; {}", depth, blocks);
+    assert_eq!(rt; levels.depth(), depth, "{}; {}", depth, blocks);
     refuses_past(rt, levels, blocks);
-    Ok(())
 }
 
 #[test]
@@ -55,9 +49,7 @@ fn starts_and_lengths(rt: HostRuntime) -> Result<(), Fail> {
             start,
             length
         );
-        shows(&rt, &mut levels, depth, blocks)
-            .note(start)
-            .note(length)?;
+        shows(&rt, &mut levels, depth, blocks);
     }
     Ok(())
 }
@@ -66,7 +58,7 @@ fn starts_and_lengths(rt: HostRuntime) -> Result<(), Fail> {
 fn seven_mounts(rt: HostRuntime) -> Result<(), Fail> {
     let mut levels = Levels::over(Scratch::new());
     assert_eq!(rt; number(levels.dismount()), 13);
-    shows(&rt, &mut levels, 0, 40)?;
+    shows(&rt, &mut levels, 0, 40);
     // each without the first block of the one around
     for (depth, blocks) in [
         (1, 39),
@@ -78,10 +70,10 @@ fn seven_mounts(rt: HostRuntime) -> Result<(), Fail> {
         (7, 33),
     ] {
         assert_eq!(rt; number(levels.mount(1, blocks)), 0);
-        shows(&rt, &mut levels, depth, blocks)?;
+        shows(&rt, &mut levels, depth, blocks);
     }
     assert_eq!(rt; number(levels.mount(0, 1)), 13);
-    shows(&rt, &mut levels, 7, 33)?;
+    shows(&rt, &mut levels, 7, 33);
     // block 0 of the deepest is block 7 of the device
     assert_eq!(rt; levels.write(0, &[0x5A; 512]), Ok(()));
     for (depth, blocks) in [
@@ -94,7 +86,7 @@ fn seven_mounts(rt: HostRuntime) -> Result<(), Fail> {
         (0, 40),
     ] {
         assert_eq!(rt; number(levels.dismount()), 0);
-        shows(&rt, &mut levels, depth, blocks)?;
+        shows(&rt, &mut levels, depth, blocks);
     }
     assert_eq!(rt; number(levels.dismount()), 13);
     for b in 0..40 {
@@ -111,7 +103,7 @@ fn try_three_levels(rt: &impl Abort, memory: &mut [u8]) -> Result<(), Fail> {
     for (start, length) in [(5, 30), (4, 20), (3, 10)] {
         assert_eq!(rt; number(levels.mount(start, length)), 0);
     }
-    shows(rt, &mut levels, 3, 10)?;
+    shows(rt, &mut levels, 3, 10);
     refuses(rt, &mut levels, 3, DeviceFault::BadBlock(3), 2);
     assert!(rt; untouched(levels.below().bytes()));
     assert_eq!(rt; levels.write(2, &[0x5A; 512]), Ok(()));

@@ -16,6 +16,7 @@ const RUN: Given<'static> = Given {
     run: &[1, 1, 0, 2],
     work: 32_768,
     room: 27,
+    case: 0,
 };
 
 const ACCEPTED: &[u8] = b"00001 01 00 0000000\n";

@@ -12,12 +12,13 @@ use std::test::Fail;
 // The lines of three fields that are accepted.
 const ACCEPTED: &[u8] = b"00001 01 00 0000000\n00002 01 00 0000000\n00003 01 00 0000000\n";
 
-// A run, and how many bytes of workspace and report it is given.
+// A run, how many bytes of workspace and report it is given, and a number that tells the case in a message.
 #[derive(Clone, Copy)]
 pub struct Given<'a> {
     pub run: &'a [u8],
     pub work: usize,
     pub room: usize,
+    pub case: usize,
 }
 
 // The lines and the end of a run.
@@ -38,9 +39,29 @@ pub fn play<D: Device>(
     let mut work = vec![in heap; 0u8; given.work]?;
     let mut report = patterned(heap, given.room)?;
     let ran = run(pack, given.run, work.as_mut_slice(), report.as_mut_slice());
-    assert_eq!(rt; ran.end.number(), told.end);
-    assert_eq!(rt; ran.lines, told.lines.len() / 20);
-    assert!(rt; replaced(report.as_slice(), 0, told.lines));
+    assert_eq!(rt;
+        ran.end.number(),
+        told.end,
+        "{}; {}; {}",
+        given.case,
+        given.work,
+        given.room
+    );
+    assert_eq!(rt;
+        ran.lines,
+        told.lines.len() / 20,
+        "{}; {}; {}",
+        given.case,
+        given.work,
+        given.room
+    );
+    assert!(rt;
+        replaced(report.as_slice(), 0, told.lines),
+        "{}; {}; {}",
+        given.case,
+        given.work,
+        given.room
+    );
     Ok(())
 }
 
@@ -60,8 +81,12 @@ fn play_on_image(
     }
     let mut pack = Pack::over(Image::over(memory.as_mut_slice(), bad));
     play(rt, heap, &mut pack, given, told)?;
-    assert_eq!(rt; pack.levels().depth(), 0);
-    assert!(rt; pack.levels().below().bytes() == expected.as_slice());
+    assert_eq!(rt; pack.levels().depth(), 0, "{}", given.case);
+    assert!(rt;
+        pack.levels().below().bytes() == expected.as_slice(),
+        "{}",
+        given.case
+    );
     Ok(())
 }
 
@@ -74,13 +99,14 @@ fn cut_at_every_byte(rt: HostRuntime) -> Result<(), Fail> {
             run: &fields[0..cut],
             work: 32_768,
             room: 67,
+            case: cut,
         };
         let whole = cut / 4;
         let told = Told {
             lines: &ACCEPTED[0..20 * whole],
             end: if cut % 4 == 0 { 0 } else { 17 },
         };
-        play_on_image(&rt, rt.alloc(), &[], given, told, whole as u8).note(cut)?;
+        play_on_image(&rt, rt.alloc(), &[], given, told, whole as u8)?;
     }
     Ok(())
 }
@@ -111,14 +137,13 @@ fn small_reports(rt: HostRuntime) -> Result<(), Fail> {
             run: &fields[0..size],
             work: 32_768,
             room,
+            case: size,
         };
         let told = Told {
             lines: &ACCEPTED[0..20 * lines],
             end,
         };
-        play_on_image(&rt, rt.alloc(), &[], given, told, lines as u8)
-            .note(size)
-            .note(room)?;
+        play_on_image(&rt, rt.alloc(), &[], given, told, lines as u8)?;
     }
     Ok(())
 }
@@ -161,10 +186,9 @@ fn long_runs_and_small_workspaces(rt: HostRuntime) -> Result<(), Fail> {
             run,
             work,
             room: 107,
+            case: run.len(),
         };
-        play_on_image(&rt, heap, &[], given, Told { lines, end }, segments)
-            .note(run.len())
-            .note(work)?;
+        play_on_image(&rt, heap, &[], given, Told { lines, end }, segments)?;
     }
     Ok(())
 }
@@ -178,12 +202,13 @@ fn unknown_tags(rt: HostRuntime) -> Result<(), Fail> {
             run: &[1, 1, 0, 1, tag, 2, 0, 1, 1, 1, 1, 0, 2],
             work: 32_768,
             room: 67,
+            case: tag as usize,
         };
         let told = Told {
             lines: b"00001 01 00 0000000\n00002 00 16 0000000\n00003 01 00 0000000\n",
             end: 0,
         };
-        play_on_image(&rt, rt.alloc(), &[], given, told, 2).note(tag)?;
+        play_on_image(&rt, rt.alloc(), &[], given, told, 2)?;
     }
     Ok(())
 }
@@ -210,8 +235,9 @@ fn refused_fields(rt: HostRuntime) -> Result<(), Fail> {
             run,
             work: 32_768,
             room: 27,
+            case: bad as usize,
         };
-        play_on_image(&rt, heap, &[bad], given, Told { lines, end: 0 }, 0).note(bad)?;
+        play_on_image(&rt, heap, &[bad], given, Told { lines, end: 0 }, 0)?;
     }
     Ok(())
 }
@@ -241,12 +267,13 @@ fn as_many_fields_as_fit(rt: HostRuntime) -> Result<(), Fail> {
             run: zeros.as_slice(),
             work: 32_768,
             room,
+            case: room,
         };
         let told = Told {
             lines: lines.as_slice(),
             end,
         };
-        play_on_image(&rt, heap, &[], given, told, 0).note(room)?;
+        play_on_image(&rt, heap, &[], given, told, 0)?;
     }
     Ok(())
 }

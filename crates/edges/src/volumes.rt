@@ -57,8 +57,19 @@ fn try_initialize(
         lay_out(expected.as_mut_slice(), segments, level);
     }
     let mut image = Image::over(memory.as_mut_slice(), bad);
-    assert_eq!(rt; initialize(&mut image, segments), answer);
-    assert!(rt; same(image.bytes(), expected.as_slice()));
+    assert_eq!(rt;
+        initialize(&mut image, segments),
+        answer,
+        "{}; {}",
+        segments,
+        level
+    );
+    assert!(rt;
+        same(image.bytes(), expected.as_slice()),
+        "{}; {}",
+        segments,
+        level
+    );
     Ok(())
 }
 
@@ -72,9 +83,7 @@ fn segments_and_blocks_in_range(rt: HostRuntime) -> Result<(), Fail> {
                 Err(FileFault::OutOfRange)
             };
             let image = usize::from(blocks);
-            try_initialize(&rt, rt.alloc(), image, &[], segments, blocks, answer)
-                .note(segments)
-                .note(blocks)?;
+            try_initialize(&rt, rt.alloc(), image, &[], segments, blocks, answer)?;
         }
     }
     assert_eq!(rt; FileFault::OutOfRange.number(), 12);
@@ -119,16 +128,22 @@ fn a_level_has_at_most_65535_blocks(rt: HostRuntime) -> Result<(), Fail> {
 fn try_counted(
     rt: &impl Abort,
     memory: &mut [u8],
-    bad: &[u32],
+    bad: u32,
     segments: u8,
     reads: u32,
     writes: u32,
-) -> Result<(), Fail> {
-    let mut counting = Counting::over(Image::over(memory, bad));
-    assert_eq!(rt; initialize(&mut counting, segments).is_ok(), writes > 0);
-    assert_eq!(rt; counting.reads(), reads);
-    assert_eq!(rt; counting.writes(), writes);
-    Ok(())
+) {
+    let list = [bad];
+    let mut counting = Counting::over(Image::over(memory, &list));
+    assert_eq!(rt;
+        initialize(&mut counting, segments).is_ok(),
+        writes > 0,
+        "{}; {}",
+        segments,
+        bad
+    );
+    assert_eq!(rt; counting.reads(), reads, "{}; {}", segments, bad);
+    assert_eq!(rt; counting.writes(), writes, "{}; {}", segments, bad);
 }
 
 #[test]
@@ -147,9 +162,7 @@ fn reads_and_writes_counted(rt: HostRuntime) -> Result<(), Fail> {
     ];
     for (segments, bad, reads, writes) in cases {
         let mut memory = patterned(rt.alloc(), 51_200)?;
-        try_counted(&rt, memory.as_mut_slice(), &[bad], segments, reads, writes)
-            .note(segments)
-            .note(bad)?;
+        try_counted(&rt, memory.as_mut_slice(), bad, segments, reads, writes);
     }
     Ok(())
 }

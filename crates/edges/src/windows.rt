@@ -17,17 +17,33 @@ fn try_window(
     length: u32,
     standing: u8,
     blocks: u32,
-) -> Result<(), Fail> {
+) {
     let mut window = Window::over(Image::over(memory, &[]), start, length);
-    assert_eq!(rt; window.standing().number(), standing);
+    assert_eq!(rt;
+        window.standing().number(),
+        standing,
+        "{}; {}",
+        start,
+        length
+    );
     refuses_past(rt, &mut window, blocks);
-    assert!(rt; untouched(window.below().bytes()));
+    assert!(rt; untouched(window.below().bytes()), "{}; {}", start, length);
     if blocks > 0 {
         // each of the windows tried that shows blocks ends where the image does
-        assert_eq!(rt; window.write(blocks - 1, &[0x5A; 512]), Ok(()));
-        assert!(rt; replaced(window.below().bytes(), 39 * 512, &[0x5A; 512]));
+        assert_eq!(rt;
+            window.write(blocks - 1, &[0x5A; 512]),
+            Ok(()),
+            "{}; {}",
+            start,
+            length
+        );
+        assert!(rt;
+            replaced(window.below().bytes(), 39 * 512, &[0x5A; 512]),
+            "{}; {}",
+            start,
+            length
+        );
     }
-    Ok(())
 }
 
 #[test]
@@ -50,9 +66,7 @@ fn starts_and_lengths(rt: HostRuntime) -> Result<(), Fail> {
     ];
     for (start, length, standing, blocks) in cases {
         let mut memory = patterned(rt.alloc(), 20_480)?;
-        try_window(&rt, memory.as_mut_slice(), start, length, standing, blocks)
-            .note(start)
-            .note(length)?;
+        try_window(&rt, memory.as_mut_slice(), start, length, standing, blocks);
     }
     Ok(())
 }

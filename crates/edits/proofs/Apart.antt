@@ -1,8 +1,7 @@
 -- Entries lie inside their list and share no block.
-use Rattle.std.proofs.Common.{◌≡◌, ℕ, ◌+◌, ◌≤◌, Bool, true, false, cond, ◌⊎◌, List, [], ◌∷◌, IfSome, Some, None, Option, sym, refl, ap, ◌∙◌, inl, inr, arith}
+use Rattle.std.proofs.Common.{◌≡◌, ◌+◌, ◌≤◌, true, ◌⊎◌, [], ◌∷◌, IfSome, Some, None, Option, inl, inr, arith}
 use Rattle.std.proofs.lemmas.Bool.{cond_both, cases_Bool}
-use Rattle.volume.specs.declared.entry.Entry.{Entry}
-use Rattle.edits.specs.Entries.{blocks_of, Standing, standing}
+use Rattle.edits.specs.Entries.{blocks_of, standing}
 use Rattle.edits.specs.Laws.{PlacesInside, PlacesApart}
 use Rattle.edits.proofs.Counts.{blocks_cons}
 

@@ -1,8 +1,7 @@
 -- What an edit of one segment keeps of the chain.
-use Rattle.std.proofs.Common.{◌≡◌, ℕ, zero, suc, ◌+◌, ◌-◌, ◌<◌, ◌≤◌, Bool, true, false, cond, eqb, List, [], ◌∷◌, ◌++◌, length, take, drop, sym, refl, ap, ◌∙◌, arith}
-use Rattle.std.specs.List.{AllByRecursion as All}
+use Rattle.std.proofs.Common.{◌≡◌, ℕ, zero, suc, ◌+◌, ◌≤◌, eqb, List, [], ◌∷◌, length, sym, refl, ap, ◌∙◌, arith}
+use Rattle.std.specs.List.{AllByRecursion}
 use Rattle.volume.specs.declared.entry.Entry.{Entry}
-use Rattle.edits.specs.Entries.{count}
 use Rattle.edits.specs.Directories.{Segment, Begins, meets, place_entries}
 use Rattle.edits.specs.Edits.{altered}
 use Rattle.edits.proofs.Counts.{one, count-cons}
@@ -14,7 +13,7 @@ pub record SameChain (ss tt' : List Segment) : Type 0 where
   pub begun : Begins 1 ss → Begins 1 tt'
 
 abbrev pub Roomy : ℕ → List Segment → Type 0
-Roomy c ss = All (λ s. length s.entries ≤ c) ss
+Roomy c ss = AllByRecursion (λ s. length s.entries ≤ c) ss
 
 module _ (f : List Entry → List Entry) where
   altered-long : (k : ℕ) (ss : List Segment) → length (altered k f ss) ≡ length ss

@@ -1,23 +1,21 @@
 -- PURGE, DELETE, RENAME, PROTECT.
-use Rattle.std.proofs.Common.{◌≡◌, ℕ, zero, suc, ◌+◌, ◌-◌, ◌<◌, ◌≤◌, Bool, true, false, cond, not, ◌&&◌, eqb, ◌⊎◌, List, [], ◌∷◌, ◌++◌, length, take, drop, IfOk, Some, None, Ok, Err, Option, Result, sym, refl, ap, ◌∙◌, subst, inl, inr, arith}
-use Rattle.std.specs.List.{AllByRecursion as All}
-use Rattle.std.proofs.lemmas.Bool.{cond_both, cases_Bool, eqb-true, eqb-false, not-true, not-false, and_left, and_right, and_from}
+use Rattle.std.proofs.Common.{◌≡◌, ℕ, ◌+◌, ◌≤◌, Bool, true, false, cond, not, eqb, ◌⊎◌, List, [], ◌∷◌, ◌++◌, length, take, IfOk, Ok, Err, Result, sym, refl, ap, ◌∙◌, inl, inr, arith}
+use Rattle.std.specs.List.{AllByRecursion}
+use Rattle.std.proofs.lemmas.Bool.{cond_both, cases_Bool, eqb-true, eqb-false, not-true, not-false, and_right, and_from}
 use Rattle.volume.specs.declared.fault.FileFault.{FileFault}
 use Rattle.volume.specs.declared.fault.FileFault.TheVariants as fault
-use Rattle.volume.specs.declared.entry.Status.{Status}
-use Rattle.volume.specs.declared.entry.Status.TheVariants.{Tentative, Empty, Permanent, Protected}
 use Rattle.codec.specs.declared.name.Name.{Name}
 use Rattle.volume.specs.declared.entry.Entry.{Entry}
-use Rattle.edits.specs.Entries.{file_status, is_file, is_tentative, is_named, is_misnamed, is_empty, same_name, lawful_words, renamed, marked, blocks_of, count, any, Standing, put, standing}
+use Rattle.edits.specs.Entries.{is_file, is_tentative, is_named, is_misnamed, same_name, lawful_words, renamed, blocks_of, count, any}
 use Rattle.edits.specs.Directories.{Segment, Directory, capacity_of, flat, place_entries, entries_of, first_block, entry_named, Lawful}
 use Rattle.edits.specs.Asks.{Place, places}
-use Rattle.edits.specs.Edits.{altered, holding, spliced, emptied, empty_first, change_first, at_place, protection, present, guarded, purge, delete, rename, protect}
-use Rattle.edits.specs.Laws.{Stands, Opened, Deletes, Renames, Protects, PurgeKeeps, DeleteKeeps, RenameKeeps, ProtectKeeps}
+use Rattle.edits.specs.Edits.{holding, spliced, emptied, empty_first, change_first, at_place, protection, present, guarded, purge, delete, rename, protect}
+use Rattle.edits.specs.Laws.{Deletes, Renames, Protects, PurgeKeeps, DeleteKeeps, RenameKeeps, ProtectKeeps}
 use Rattle.edits.proofs.Counts.{one, blocks_nil, blocks_cons, count-nil, count_yes, count_no, count-cons, standing-none}
 use Rattle.edits.proofs.Edited.{edit_one, edit_count, edit_parts, spliced_edit}
 use Rattle.edits.proofs.Places.{Genuine, places_genuine, counted_places, stands_inside}
 use Rattle.edits.proofs.Named.{same_is, name_same, named_file, named_name, fails, named_other, file-alone, named_shuns_tentative, tentative_no_file}
-use Rattle.edits.proofs.Kept.{Edited, altered-edited, edited-file, edited-lawful, edited_apart, Emptying, emptied_at, emptying_file, emptying_lists, emptying_count, emptying_lawful}
+use Rattle.edits.proofs.Kept.{Edited, altered-edited, edited-file, edited-lawful, Emptying, emptied_at, emptying_file, emptying_lists, emptying_count, emptying_lawful}
 
 -- the first place that passes a test, or there is none
 unfoldable pub First : (Entry → Bool) → List Segment → Type 0
@@ -29,7 +27,7 @@ pub first_place : (p : Entry → Bool) (ss : List Segment) → First p ss
 unfolding First
 first_place p ss = go (places p ss) refl (places_genuine p ss)
   where
-    go : (ps : List Place) → places p ss ≡ ps → All (Genuine p ss) ps
+    go : (ps : List Place) → places p ss ≡ ps → AllByRecursion (Genuine p ss) ps
         → ((places p ss ≡ []) × (count p (flat ss) ≡ 0))
         ⊎ ((a : Place) × (ps : List Place) × (places p ss ≡ a ∷ ps) × Genuine p ss a)
     go [] h g = inl (h, sym (counted_places p 0 ss) ∙ ap length h)

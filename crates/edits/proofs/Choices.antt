@@ -1,25 +1,24 @@
 -- What each ask gets, by properties.
-use Rattle.std.proofs.Common.{◌≡◌, ℕ, ◌+◌, ◌/◌, ◌<◌, ◌≤◌, Bool, true, false, cond, eqb, ltb, leb, ◌⊎◌, List, [], ◌∷◌, ◌++◌, Some, None, Option, sym, refl, ap, ◌∙◌, inl, inr, arith, MatchOption}
-use Rattle.std.specs.List.{AllByRecursion as All}
+use Rattle.std.proofs.Common.{◌≡◌, ℕ, ◌<◌, ◌≤◌, eqb, ltb, leb, List, [], ◌∷◌, ◌++◌, Some, None, Option, sym, refl, ap, ◌∙◌, inl, inr, arith, MatchOption}
+use Rattle.std.specs.List.{AllByRecursion}
 use Rattle.std.specs.Option.{option_map}
 use Rattle.std.proofs.ByRecursion.{All-append, All-weaker}
-use Rattle.std.proofs.lemmas.Bool.{cond_both, cases_Bool, eqb-true, eqb-false, leb-true, leb-false, ltb-true, ltb-false, eq-eqb, ne_eqb}
-use Rattle.runfile.specs.declared.field.Ask.{Ask}
+use Rattle.std.proofs.lemmas.Bool.{cond_both, eqb-true, eqb-false, leb-true, leb-false, ltb-true, ltb-false, eq-eqb, ne_eqb}
 use Rattle.runfile.specs.declared.field.Ask.TheVariants.{Whole, Half, Exact}
-use Rattle.edits.specs.Asks.{Place, size, first_of, larger, largest, others, Choice, giving, half_of, whole_of, half_or_second, half_from, chosen}
-use Rattle.edits.specs.Choices.{FirstFit, Largest, Second, Gets, GetsNone, AsksGet}
+use Rattle.edits.specs.Asks.{Place, size, first_of, larger, largest, others, giving, half_of, whole_of, half_or_second, half_from}
+use Rattle.edits.specs.Choices.{FirstFit, Largest, Gets, GetsNone, AsksGet}
 
-first_fit : (n : ℕ) (ps : List Place) → MatchOption (first_of (λ a. leb n (size a)) ps) (All (λ b. size b < n) ps) (FirstFit n ps)
+first_fit : (n : ℕ) (ps : List Place) → MatchOption (first_of (λ a. leb n (size a)) ps) (AllByRecursion (λ b. size b < n) ps) (FirstFit n ps)
 unfolding first_of
 first_fit n [] = tt
 first_fit n (a ∷ ps) =
     cond_both (leb n (size a)) (Some a) (first_of (λ a. leb n (size a)) ps)
-    (λ o. MatchOption o (All (λ b. size b < n) (a ∷ ps)) (FirstFit n (a ∷ ps)))
+    (λ o. MatchOption o (AllByRecursion (λ b. size b < n) (a ∷ ps)) (FirstFit n (a ∷ ps)))
     (λ y. record { before = []; after = ps; all = refl; shorter = tt; enough = leb-true n (size a) y })
     (λ y. go (leb-false n (size a) y) (first_of (λ a. leb n (size a)) ps) (first_fit n ps))
   where
-    go : size a < n → (o : Option Place) → MatchOption o (All (λ b. size b < n) ps) (FirstFit n ps)
-        → MatchOption o (All (λ b. size b < n) (a ∷ ps)) (FirstFit n (a ∷ ps))
+    go : size a < n → (o : Option Place) → MatchOption o (AllByRecursion (λ b. size b < n) ps) (FirstFit n ps)
+        → MatchOption o (AllByRecursion (λ b. size b < n) (a ∷ ps)) (FirstFit n (a ∷ ps))
     go l None h = (l, h)
     go l (Some b) h =
         record { before = a ∷ h.before; after = h.after; all = ap (λ ps. a ∷ ps) h.all; shorter = (l, h.shorter); enough = h.enough }
@@ -54,19 +53,19 @@ largest-first (a ∷ ps) = go (largest ps) (largest-first ps)
         })
 
 -- the others are those before and behind the largest
-pub others_are : (a : Place) (before after : List Place) → All (λ b. size b < size a) before → others a (before ++ a ∷ after) ≡ before ++ after
+pub others_are : (a : Place) (before after : List Place) → AllByRecursion (λ b. size b < size a) before → others a (before ++ a ∷ after) ≡ before ++ after
 unfolding others
 others_are a [] after h = rw (eq-eqb (size a) (size a) refl)
 others_are a (b ∷ before) after h =
     rw (ne_eqb (size a) (size b) (λ e. omega (arith, e, h.0))) (ap (λ ps. b ∷ ps) (others_are a before after h.1))
 
-none-long : (ps : List Place) (a : Place) → Largest ps a → size a ≡ 0 → All (λ b. size b ≡ 0) ps
+none-long : (ps : List Place) (a : Place) → Largest ps a → size a ≡ 0 → AllByRecursion (λ b. size b ≡ 0) ps
 none-long ps a l z =
     rw l.all (All-append (λ b. size b ≡ 0) l.before (a ∷ l.after)
     (All-weaker (λ c. size c < size a) (λ c. size c ≡ 0) (λ c k. absurd (omega (arith, k, z))) l.before l.shorter)
     (z, All-weaker (λ c. size c ≤ size a) (λ c. size c ≡ 0) (λ c k. omega (arith, k, z)) l.after l.no_longer))
 
-exact_gets : (n : ℕ) (ps : List Place) (o : Option Place) → MatchOption o (All (λ b. size b < n) ps) (FirstFit n ps)
+exact_gets : (n : ℕ) (ps : List Place) (o : Option Place) → MatchOption o (AllByRecursion (λ b. size b < n) ps) (FirstFit n ps)
     → MatchOption (option_map (giving n) o) (GetsNone (Exact n) ps) (Gets (Exact n) ps)
 exact_gets n ps None h = h
 exact_gets n ps (Some a) h = (h, refl)

@@ -1,6 +1,6 @@
 -- What an ask gets is one of the empties, and no more than it has.
-use Rattle.std.proofs.Common.{◌≡◌, ℕ, ◌+◌, ◌/◌, ◌≤◌, Bool, true, false, cond, eqb, ltb, leb, List, [], ◌∷◌, IfSome, Some, None, Option, sym, refl, ap, ◌∙◌, arith}
-use Rattle.std.specs.List.{AllByRecursion as All}
+use Rattle.std.proofs.Common.{◌≡◌, ℕ, ◌≤◌, Bool, true, eqb, ltb, leb, List, [], ◌∷◌, IfSome, Some, None, Option, arith}
+use Rattle.std.specs.List.{AllByRecursion}
 use Rattle.std.proofs.lemmas.Bool.{cond_both, eqb-false, leb-true}
 use Rattle.runfile.specs.declared.field.Ask.{Ask}
 use Rattle.runfile.specs.declared.field.Ask.TheVariants.{Whole, Half, Exact}
@@ -15,18 +15,18 @@ module _ (P : Place → Type 0) where
   larger_of a None p h = p
   larger_of a (Some b) p h = cond_both (ltb (size a) (size b)) b a P (λ _. h) (λ _. p)
 
-  largest_of : (ps : List Place) → All P ps → IfSome (largest ps) P
+  largest_of : (ps : List Place) → AllByRecursion P ps → IfSome (largest ps) P
   unfolding largest
   largest_of [] h = tt
   largest_of (a ∷ ps) h = larger_of a (largest ps) h.0 (largest_of ps h.1)
 
-  others_of : (a : Place) (ps : List Place) → All P ps → All P (others a ps)
+  others_of : (a : Place) (ps : List Place) → AllByRecursion P ps → AllByRecursion P (others a ps)
   unfolding others
   others_of a [] h = tt
   others_of a (b ∷ ps) h =
-      cond_both (eqb (size a) (size b)) ps (b ∷ others a ps) (All P) (λ _. h.1) (λ _. (h.0, others_of a ps h.1))
+      cond_both (eqb (size a) (size b)) ps (b ∷ others a ps) (AllByRecursion P) (λ _. h.1) (λ _. (h.0, others_of a ps h.1))
 
-  first_is : (p : Place → Bool) (ps : List Place) → All P ps → IfSome (first_of p ps) (λ a. P a × (p a ≡ true))
+  first_is : (p : Place → Bool) (ps : List Place) → AllByRecursion P ps → IfSome (first_of p ps) (λ a. P a × (p a ≡ true))
   unfolding first_of
   first_is p [] h = tt
   first_is p (a ∷ ps) h =
@@ -47,7 +47,7 @@ module _ (P : Place → Type 0) where
       cond_both (ltb (half_of a) (size b)) (giving (size b) b) (giving (half_of a) a) Fair
       (λ _. (h, omega arith)) (λ _. (p, omega arith))
 
-  from-half : (o : Option Place) (ps : List Place) → IfSome o P → All P ps → IfSome (half_from o ps) Fair
+  from-half : (o : Option Place) (ps : List Place) → IfSome o P → AllByRecursion P ps → IfSome (half_from o ps) Fair
   from-half None ps h g = tt
   from-half (Some a) ps h g =
       cond_both (eqb (size a) 0) None (Some (half_or_second a (largest (others a ps)))) (λ o. IfSome o Fair) (λ _. tt)
@@ -58,7 +58,7 @@ module _ (P : Place → Type 0) where
   exact_of n None h = tt
   exact_of n (Some a) h = (h.0, leb-true n (size a) h.1)
 
-  pub chosen_of : (ask : Ask) (ps : List Place) → All P ps → IfSome (chosen ask ps) Fair
+  pub chosen_of : (ask : Ask) (ps : List Place) → AllByRecursion P ps → IfSome (chosen ask ps) Fair
   chosen_of Whole ps h = whole_is (largest ps) (largest_of ps h)
   chosen_of Half ps h = from-half (largest ps) ps (largest_of ps h) h
   chosen_of (Exact n) ps h = exact_of n (first_of (λ a. leb n (size a)) ps) (first_is (λ a. leb n (size a)) ps h)

@@ -1,22 +1,21 @@
 -- CLOSE, and ENTER with what ends it.
-use Rattle.std.proofs.Common.{◌≡◌, ℕ, zero, suc, ◌+◌, ◌-◌, ◌*◌, ◌<◌, ◌≤◌, Bool, true, false, cond, not, eqb, ◌⊎◌, List, [], ◌∷◌, ◌++◌, length, take, drop, IfOk, Some, None, Ok, Err, Option, Result, unwrap_or, sym, refl, ap, ◌∙◌, inl, inr, arith}
+use Rattle.std.proofs.Common.{◌≡◌, ℕ, ◌+◌, ◌-◌, ◌*◌, ◌≤◌, Bool, true, false, not, eqb, [], ◌∷◌, ◌++◌, length, take, IfOk, Some, Ok, Err, Result, unwrap_or, sym, refl, ap, ◌∙◌, inl, inr, arith}
 use Rattle.std.specs.Option.{option_map}
-use Rattle.std.proofs.lemmas.Bool.{cond_both, cases_Bool, eqb-true, and_left, and_from}
-use Rattle.volume.specs.declared.fault.FileFault.{FileFault}
+use Rattle.std.proofs.lemmas.Bool.{cond_both, cases_Bool, eqb-true, and_left}
 use Rattle.volume.specs.declared.fault.FileFault.TheVariants as fault
 use Rattle.volume.specs.declared.entry.Status.TheVariants.{Permanent}
 use Rattle.codec.specs.declared.name.Name.{Name}
 use Rattle.volume.specs.declared.entry.Entry.{Entry}
-use Rattle.edits.specs.Entries.{is_file, is_tentative, is_named, is_misnamed, is_empty, same_name, lawful_words, empty_of, lengthened, marked, blocks_of, count, Standing, put, standing}
-use Rattle.edits.specs.Directories.{Segment, Directory, capacity_of, flat, place_entries, entries_of, first_block, entry_named, file_of, files, file, free, Lawful}
-use Rattle.edits.specs.Edits.{altered, spliced, holding, rest, filled_out, empty_first, change_first, Output, Entered, closed, close, enter, purge, guarded}
-use Rattle.edits.specs.Laws.{Stands, Opened, Opens, output_start, file_made, Closes, CloseKeeps, Purges, Stores, EnterThenPurge, EnterThenClose}
-use Rattle.edits.proofs.Counts.{one, blocks_nil, blocks_cons, count-nil, count-cons, count_yes, count_no, standing_here}
-use Rattle.edits.proofs.Edited.{Edit, edit_one, edit_parts, spliced_edit_two}
+use Rattle.edits.specs.Entries.{is_file, is_tentative, is_named, is_misnamed, same_name, lawful_words, empty_of, lengthened, marked, blocks_of, count, Standing, put, standing}
+use Rattle.edits.specs.Directories.{Directory, capacity_of, flat, place_entries, entries_of, first_block, entry_named, file_of, files, file, free, Lawful}
+use Rattle.edits.specs.Edits.{altered, spliced, holding, rest, filled_out, empty_first, change_first, Output, closed, close, enter, purge, guarded}
+use Rattle.edits.specs.Laws.{Opened, Opens, output_start, Closes, CloseKeeps, Purges, Stores, EnterThenPurge, EnterThenClose}
+use Rattle.edits.proofs.Counts.{one, blocks_nil, blocks_cons, count-nil, count_yes, count_no, standing_here}
+use Rattle.edits.proofs.Edited.{edit_one, edit_parts, spliced_edit_two}
 use Rattle.edits.proofs.Places.{stands_inside}
-use Rattle.edits.proofs.Named.{same_is, name_same, named_file, named_name, fails, named_other, file-alone, tentative_shuns, named_shuns, named_shuns_tentative, tentative_no_file}
-use Rattle.edits.proofs.Kept.{Edited, altered-edited, edited-file, edited-lawful, edited_apart, Emptying, emptying_file, emptying_standing, emptying_count, emptying_lawful}
-use Rattle.edits.proofs.Changes.{first-emptied, Changing, first_changed, changing_count, changing_front, changing_file, changing_lawful, purge_keeps}
+use Rattle.edits.proofs.Named.{name_same, named_file, named_name, fails, named_other, file-alone, tentative_shuns, named_shuns, named_shuns_tentative, tentative_no_file}
+use Rattle.edits.proofs.Kept.{altered-edited, edited-file, edited-lawful, edited_apart, emptying_file, emptying_standing, emptying_count, emptying_lawful}
+use Rattle.edits.proofs.Changes.{first-emptied, first_changed, changing_count, changing_front, changing_file, changing_lawful, purge_keeps}
 use Rattle.edits.proofs.Enter.{enter_opens}
 use Rattle.edits.specs.Tested.{used_by}
 use Rattle.edits.proofs.Tested.{used_and_free}

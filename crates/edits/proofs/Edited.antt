@@ -1,9 +1,9 @@
 -- An edit of a list of entries: some entries, behind others, replaced.
-use Rattle.std.proofs.Common.{◌≡◌, ℕ, zero, suc, ◌+◌, ◌-◌, ◌<◌, ◌≤◌, Bool, true, false, cond, List, [], ◌∷◌, ◌++◌, length, take, drop, Some, None, Option, sym, refl, ap, ◌∙◌, add-zero, zero-add, add-one, arith}
+use Rattle.std.proofs.Common.{◌≡◌, ℕ, zero, suc, ◌+◌, ◌<◌, ◌≤◌, Bool, true, List, [], ◌∷◌, ◌++◌, length, take, drop, sym, ap, ◌∙◌, add-one, arith}
 use Rattle.std.specs.Option.{option_map}
-use Rattle.std.proofs.lemmas.List.{append_assoc, length-append, take-append-drop}
+use Rattle.std.proofs.lemmas.List.{append_assoc, take-append-drop}
 use Rattle.volume.specs.declared.entry.Entry.{Entry}
-use Rattle.edits.specs.Entries.{is_file, blocks_of, count, Standing, put, standing}
+use Rattle.edits.specs.Entries.{is_file, blocks_of, count, put, standing}
 use Rattle.edits.specs.Directories.{Segment, flat, files_from, place_entries}
 use Rattle.edits.specs.Edits.{spliced, altered}
 use Rattle.edits.proofs.Counts.{blocks_append, count-append, standing_skip, standing_under, standing_here, files_skip, files_under}

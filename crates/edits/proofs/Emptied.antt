@@ -1,16 +1,15 @@
 -- An entry that becomes empty and joins the run around it: an edit that replaces the run.
-use Rattle.std.proofs.Common.{◌≡◌, ℕ, zero, suc, ◌+◌, ◌-◌, ◌<◌, ◌≤◌, Bool, true, false, cond, not, ◌⊎◌, List, [], ◌∷◌, ◌++◌, length, get_or, take, drop, sym, refl, ap, ◌∙◌, inl, inr, add-one, arith, take-suc}
-use native.Mathlib.Nat.{sub-zero}
+use Rattle.std.proofs.Common.{◌≡◌, ℕ, zero, suc, ◌+◌, ◌-◌, ◌<◌, ◌≤◌, Bool, true, false, List, [], ◌∷◌, ◌++◌, length, get_or, take, drop, sym, refl, ap, ◌∙◌, inl, inr, add-one, arith, take-suc}
 use Rattle.std.specs.List.{prefix_len, suffix_len, between}
 use Rattle.std.proofs.lemmas.List.{length-take-le, length-take, length-drop, drop-append-le, drop_all, drop-drop, take-take, take-append-drop}
-use Rattle.std.proofs.lemmas.List.Sums.{suffix_len-take_yes, suffix_len-take_no, suffix_len-le-length, prefix_len-le-length}
+use Rattle.std.proofs.lemmas.List.Sums.{suffix_len-take_yes, suffix_len-take_no, prefix_len-le-length}
 use Rattle.std.proofs.lemmas.List.Edits.{split_between, length-between}
 use Rattle.std.proofs.lemmas.Bool.{cases_Bool, cond_both}
 use Rattle.volume.specs.declared.entry.Entry.{Entry}
 use Rattle.edits.specs.Entries.{is_empty, empty_of, blocks_of, count}
 use Rattle.edits.specs.Edits.{run_start, run_end, emptied}
-use Rattle.edits.specs.Laws.{Joins, EmptiedJoins}
-use Rattle.edits.proofs.Counts.{one, count-nil, count-cons, count_yes, count_no, count-append}
+use Rattle.edits.specs.Laws.{EmptiedJoins}
+use Rattle.edits.proofs.Counts.{one, count-nil, count-cons, count_no, count-append}
 use Rattle.edits.proofs.Edited.{Edit}
 
 -- a test that fails where another passes

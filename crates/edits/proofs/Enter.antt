@@ -1,22 +1,22 @@
 -- ENTER.
-use Rattle.std.proofs.Common.{◌≡◌, ℕ, zero, suc, ◌+◌, ◌-◌, ◌*◌, ◌/◌, ◌<◌, ◌≤◌, Bool, true, false, cond, eqb, leb, List, [], ◌∷◌, ◌++◌, length, take, drop, IfSome, IfOk, Some, None, Ok, Err, Option, Result, sym, refl, ap, ◌∙◌, arith}
+use Rattle.std.proofs.Common.{◌≡◌, ℕ, zero, suc, ◌+◌, ◌-◌, ◌<◌, ◌≤◌, true, cond, eqb, leb, List, [], ◌∷◌, ◌++◌, length, take, drop, IfSome, IfOk, Some, None, Ok, Err, Option, Result, sym, refl, ap, ◌∙◌, arith}
 use Rattle.std.proofs.lemmas.List.{drop_at, length-take-le, length-drop}
-use Rattle.std.proofs.lemmas.Bool.{cond_both, leb-true, leb-false, eqb-false}
+use Rattle.std.proofs.lemmas.Bool.{cond_both, leb-false, eqb-false}
 use Rattle.codec.specs.declared.name.Name.{Name}
 use Rattle.volume.specs.declared.fault.FileFault.{FileFault}
 use Rattle.volume.specs.declared.fault.FileFault.TheVariants as fault
 use Rattle.volume.specs.declared.entry.Entry.{Entry}
-use Rattle.edits.specs.Entries.{is_file, is_tentative, is_named, is_misnamed, is_empty, lawful_words, tentative_of, empty_of, blocks_of, count}
-use Rattle.edits.specs.Directories.{Segment, Directory, highest, capacity_of, flat, place_entries, entry_named, files, Lawful}
-use Rattle.edits.specs.Asks.{Place, size, Choice, choice}
-use Rattle.edits.specs.Edits.{altered, spliced, holding, split, staying, moved, moved_choice, is_full, Entered, entered_at, entered_by, guarded, enter}
-use Rattle.edits.specs.Laws.{Stands, Opened, Opens, EnterOpens}
-use Rattle.edits.proofs.Counts.{one, blocks_nil, blocks_cons, count-nil, count_yes, count_no}
-use Rattle.edits.proofs.Edited.{Edit, spliced_edit}
+use Rattle.edits.specs.Entries.{is_file, is_tentative, is_named, is_misnamed, is_empty, lawful_words, tentative_of, empty_of, blocks_of}
+use Rattle.edits.specs.Directories.{Segment, Directory, highest, capacity_of, place_entries, entry_named, files, Lawful}
+use Rattle.edits.specs.Asks.{size, Choice, choice}
+use Rattle.edits.specs.Edits.{altered, spliced, split, staying, moved_choice, is_full, Entered, entered_at, entered_by, guarded, enter}
+use Rattle.edits.specs.Laws.{Stands, Opens, EnterOpens}
+use Rattle.edits.proofs.Counts.{blocks_nil, blocks_cons, count-nil, count_yes, count_no}
+use Rattle.edits.proofs.Edited.{spliced_edit}
 use Rattle.edits.proofs.Places.{stands_inside, drop_step}
 use Rattle.edits.proofs.Chained.{altered_roomy, roomy_at}
 use Rattle.edits.proofs.Named.{tentative_shuns, named_shuns, file_shuns}
-use Rattle.edits.proofs.Kept.{Edited, edit_length, altered-edited, edited-file, edited_lists, edited-lawful, edited_apart}
+use Rattle.edits.proofs.Kept.{edit_length, altered-edited, edited-file, edited_lists, edited-lawful, edited_apart}
 use Rattle.edits.proofs.Chosen.{choice_stands}
 use Rattle.edits.proofs.Split.{capacity_large, split-file, split_lists, split-lawful, stands_by, moved_stands}
 

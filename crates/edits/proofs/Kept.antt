@@ -1,14 +1,14 @@
 -- What every edit of one segment keeps, said once.
-use Rattle.std.proofs.Common.{◌≡◌, ℕ, zero, suc, ◌+◌, ◌-◌, ◌<◌, ◌≤◌, Bool, true, false, cond, ◌&&◌, leb, List, [], ◌∷◌, ◌++◌, length, take, drop, sym, refl, ap, ◌∙◌, arith}
+use Rattle.std.proofs.Common.{◌≡◌, ℕ, ◌+◌, ◌<◌, ◌≤◌, Bool, false, cond, ◌&&◌, leb, List, [], ◌∷◌, ◌++◌, length, take, sym, refl, ap, ◌∙◌, arith}
 use Rattle.std.proofs.lemmas.List.{length-append}
 use Rattle.codec.specs.declared.name.Name.{Name}
 use Rattle.volume.specs.declared.entry.Entry.{Entry}
 use Rattle.edits.specs.Entries.{is_file, is_tentative, is_named, is_misnamed, is_empty, empty_of, blocks_of, count, standing}
-use Rattle.edits.specs.Directories.{Segment, Directory, highest, capacity_of, flat, place_entries, entries_of, first_block, entry_named, files_from, files, Shaped, Lawful}
-use Rattle.edits.specs.Edits.{altered, holding, spliced, emptied, run_start, run_end}
+use Rattle.edits.specs.Directories.{Segment, Directory, capacity_of, flat, place_entries, entries_of, first_block, entry_named, files, Lawful}
+use Rattle.edits.specs.Edits.{altered, holding, emptied, run_start}
 use Rattle.edits.specs.Laws.{Stands}
 use Rattle.edits.proofs.Counts.{one, blocks_nil, blocks_cons, count-nil, count_no}
-use Rattle.edits.proofs.Edited.{Edit, edit_blocks, edit_count, edit_standing, edit_files, lifted, spliced_edit}
+use Rattle.edits.proofs.Edited.{Edit, edit_blocks, edit_count, edit_standing, edit_files, lifted}
 use Rattle.edits.proofs.Places.{stands_inside}
 use Rattle.edits.proofs.Emptied.{Shuns, run, emptied_edit, run_length, run-count}
 use Rattle.edits.proofs.Chained.{SameChain, Roomy, altered_chain, altered_roomy, roomy_at}

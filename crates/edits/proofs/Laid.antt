@@ -1,11 +1,11 @@
 -- What an edit and a split change of the headers.
-use Rattle.std.proofs.Common.{◌≡◌, ℕ, zero, suc, ◌+◌, List, [], ◌∷◌, ◌++◌, take, drop, sym, refl, ap, ◌∙◌, arith}
+use Rattle.std.proofs.Common.{◌≡◌, ℕ, zero, suc, ◌+◌, List, [], ◌∷◌, take, drop, sym, refl, ap, ◌∙◌, arith}
 use Rattle.std.proofs.lemmas.List.{take-append-drop}
 use Rattle.volume.specs.declared.entry.Entry.{Entry}
 use Rattle.edits.specs.Entries.{blocks_of}
 use Rattle.edits.specs.Directories.{Segment, place_entries}
 use Rattle.edits.specs.Edits.{altered, parted, emptied, spliced}
-use Rattle.edits.specs.Laid.{Laid, next_number, laid_from, relaid, laid_apart, EditLays, SplitLays, EmptiedLays, SplicedLays, SplicedTwoLays}
+use Rattle.edits.specs.Laid.{next_number, laid_from, relaid, laid_apart, EditLays, SplitLays, EmptiedLays, SplicedLays, SplicedTwoLays}
 use Rattle.edits.specs.Entries.{empty_of}
 use Rattle.edits.proofs.Counts.{blocks_nil, blocks_cons, blocks_append}
 use Rattle.edits.proofs.Edited.{edit_blocks, spliced_edit, spliced_edit_two}

@@ -1,11 +1,11 @@
 -- Names, and tests that shun one another.
-use Rattle.std.proofs.Common.{◌≡◌, ℕ, Bool, true, false, not, ◌&&◌, eqb, ◌⊎◌, List, [], ◌∷◌, sym, refl, ap, ◌∙◌, inl, inr}
-use Rattle.std.proofs.lemmas.Bool.{eqb-true, eq-eqb, and_parts, and_from, and_left, cases_Bool, false≢true, true≢false}
+use Rattle.std.proofs.Common.{◌≡◌, Bool, true, false, ◌&&◌, eqb, sym, refl, ◌∙◌}
+use Rattle.std.proofs.lemmas.Bool.{eqb-true, eq-eqb, and_parts, and_left, false≢true}
 use Rattle.volume.specs.declared.entry.Status.{Status}
 use Rattle.volume.specs.declared.entry.Status.TheVariants.{Tentative, Empty, Permanent, Protected}
 use Rattle.codec.specs.declared.name.Name.{Name}
 use Rattle.volume.specs.declared.entry.Entry.{Entry}
-use Rattle.edits.specs.Entries.{file_status, empty_status, tentative_status, is_file, is_empty, is_tentative, is_named, is_misnamed, is_guarded, same_name}
+use Rattle.edits.specs.Entries.{file_status, empty_status, tentative_status, is_file, is_empty, is_tentative, is_named, same_name}
 use Rattle.edits.proofs.Emptied.{Shuns}
 
 pub same_is : (a b : Name) → same_name a b ≡ true → a ≡ b

@@ -1,11 +1,10 @@
 -- Where an open output lies.
-use Rattle.std.proofs.Common.{◌≡◌, ℕ, ◌+◌, ◌≤◌, true, false, ◌⊎◌, List, [], ◌∷◌, ◌++◌, take, Some, sym, refl, ap, ◌∙◌, arith}
+use Rattle.std.proofs.Common.{◌≡◌, ℕ, [], ◌++◌, take, Some, ap, ◌∙◌, arith}
 use Rattle.std.proofs.lemmas.Bool.{both_ways}
-use Rattle.volume.specs.declared.entry.Entry.{Entry}
-use Rattle.edits.specs.Entries.{is_tentative, is_named, count, blocks_of, Standing, standing}
+use Rattle.edits.specs.Entries.{is_tentative, is_named, count, standing}
 use Rattle.edits.specs.Directories.{Directory, flat, place_entries, entries_of, first_block, Lawful}
 use Rattle.edits.specs.Edits.{spliced, Output}
-use Rattle.edits.specs.Laws.{Opened, output_start, Clear, OutputClear}
+use Rattle.edits.specs.Laws.{Opened, output_start, OutputClear}
 use Rattle.edits.proofs.Counts.{count_yes, standing_here}
 use Rattle.edits.proofs.Edited.{edit_parts, spliced_edit}
 use Rattle.edits.proofs.Places.{stands_inside}

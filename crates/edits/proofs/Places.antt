@@ -1,6 +1,6 @@
 -- Places: each one found is genuine, and as many are found as there are.
-use Rattle.std.proofs.Common.{◌≡◌, ℕ, zero, suc, ◌+◌, ◌-◌, ◌<◌, ◌≤◌, Bool, true, false, cond, List, [], ◌∷◌, ◌++◌, length, take, drop, sym, refl, ap, ◌∙◌, add-one, arith}
-use Rattle.std.specs.List.{AllByRecursion as All}
+use Rattle.std.proofs.Common.{◌≡◌, ℕ, zero, suc, ◌<◌, Bool, true, List, [], ◌∷◌, length, drop, sym, refl, ap, ◌∙◌, add-one, arith}
+use Rattle.std.specs.List.{AllByRecursion}
 use Rattle.std.proofs.lemmas.List.{drop-drop, length-append, length-drop}
 use Rattle.std.proofs.ByRecursion.{All-append, All-weaker}
 use Rattle.volume.specs.declared.entry.Entry.{Entry}
@@ -29,17 +29,17 @@ module _ (p : Entry → Bool) where
   InSegment k xs a =
       (a.segment ≡ k) × (drop a.index xs ≡ a.entry ∷ drop (suc a.index) xs) × (p a.entry ≡ true)
 
-  in_places : (xs : List Entry) (k i : ℕ) (es : List Entry) → drop i xs ≡ es → All (InSegment k xs) (places_in p k i es)
+  in_places : (xs : List Entry) (k i : ℕ) (es : List Entry) → drop i xs ≡ es → AllByRecursion (InSegment k xs) (places_in p k i es)
   unfolding places_in InSegment
   in_places xs k i [] h = tt
   in_places xs k i (e ∷ es) h =
       let r = drop_step xs i e es h in
       cond_both (p e) (record { segment = k; index = i; entry = e } ∷ places_in p k (suc i) es) (places_in p k (suc i) es)
-      (All (InSegment k xs))
+      (AllByRecursion (InSegment k xs))
       (λ y. ((refl, h ∙ ap (λ l. e ∷ l) r, y), in_places xs k (suc i) es (sym r)))
       (λ y. in_places xs k (suc i) es (sym r))
 
-  from_places : (full : List Segment) (k : ℕ) (ss : List Segment) → drop k full ≡ ss → All (Genuine p full) (places_from p k ss)
+  from_places : (full : List Segment) (k : ℕ) (ss : List Segment) → drop k full ≡ ss → AllByRecursion (Genuine p full) (places_from p k ss)
   unfolding places_from place_entries InSegment
   from_places full k [] h = tt
   from_places full k (s ∷ ss) h =
@@ -50,7 +50,7 @@ module _ (p : Entry → Bool) where
       (places_in p k 0 s.entries) (in_places s.entries k 0 s.entries refl))
       (from_places full (suc k) ss (sym (drop_step full k s ss h)))
 
-  pub places_genuine : (ss : List Segment) → All (Genuine p ss) (places p ss)
+  pub places_genuine : (ss : List Segment) → AllByRecursion (Genuine p ss) (places p ss)
   places_genuine ss = from_places ss 0 ss refl
 
   counted_in : (k i : ℕ) (es : List Entry) → length (places_in p k i es) ≡ count p es

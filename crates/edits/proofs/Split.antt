@@ -1,5 +1,5 @@
 -- A split keeps the flat list, and a lawful directory lawful.
-use Rattle.std.proofs.Common.{◌≡◌, ℕ, zero, suc, ◌+◌, ◌-◌, ◌*◌, ◌/◌, ◌<◌, ◌≤◌, Bool, true, false, cond, ◌&&◌, eqb, ltb, leb, List, [], ◌∷◌, ◌++◌, length, take, drop, sym, refl, ap, ◌∙◌, le-div_iff_mul-le, arith}
+use Rattle.std.proofs.Common.{◌≡◌, ℕ, zero, suc, ◌+◌, ◌-◌, ◌<◌, ◌≤◌, Bool, cond, ◌&&◌, eqb, ltb, leb, List, [], ◌∷◌, ◌++◌, length, take, drop, sym, refl, ap, ◌∙◌, le-div_iff_mul-le, arith}
 use Rattle.std.proofs.lemmas.List.{append_assoc, take-append-drop, length-take, length-drop, drop-take, drop-drop}
 use Rattle.std.proofs.lemmas.Bool.{cond_both, ltb-true, ltb-false}
 use Rattle.std.proofs.lemmas.Bool.Decides.{nat_tests}
@@ -7,7 +7,7 @@ use Rattle.codec.specs.declared.name.Name.{Name}
 use Rattle.volume.specs.declared.entry.Entry.{Entry}
 use Rattle.edits.specs.Entries.{is_tentative, is_named, is_misnamed, blocks_of, count, standing}
 use Rattle.edits.specs.Directories.{Segment, Directory, highest, capacity_of, flat, place_entries, first_block, entry_named, files_from, files, Begins, meets, Lawful}
-use Rattle.edits.specs.Edits.{parted, split, staying, moved, holding}
+use Rattle.edits.specs.Edits.{parted, split, staying, moved}
 use Rattle.edits.specs.Asks.{Place}
 use Rattle.edits.specs.Laws.{Stands, SplitKeeps}
 use Rattle.edits.proofs.Counts.{one, count-cons}

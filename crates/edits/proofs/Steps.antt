@@ -1,9 +1,9 @@
 -- One more segment, entry or place: the steps of a loop that looks for places and for the largest.
-use Rattle.std.proofs.Common.{◌≡◌, ℕ, zero, suc, ◌+◌, ◌<◌, ◌≤◌, Bool, true, false, cond, eqb, ltb, ◌⊎◌, List, [], ◌∷◌, ◌++◌, length, Some, None, Option, sym, refl, ap, ◌∙◌, inl, inr, arith, MatchOption}
-use Rattle.std.specs.List.{AllByRecursion as All}
+use Rattle.std.proofs.Common.{◌≡◌, ℕ, suc, ◌+◌, ◌<◌, ◌≤◌, Bool, cond, ltb, List, [], ◌∷◌, ◌++◌, length, Some, None, Option, sym, refl, ap, ◌∙◌, inl, inr, arith}
+use Rattle.std.specs.List.{AllByRecursion}
 use Rattle.std.proofs.lemmas.List.{append_assoc, append-nil}
 use Rattle.std.proofs.ByRecursion.{All-append, All-weaker}
-use Rattle.std.proofs.lemmas.Bool.{cond_both, cases_Bool, eq-eqb, ne_eqb, lt-ltb, le-ltb, ltb-true, ltb-false}
+use Rattle.std.proofs.lemmas.Bool.{cases_Bool, lt-ltb, le-ltb, ltb-true, ltb-false}
 use Rattle.volume.specs.declared.entry.Entry.{Entry}
 use Rattle.edits.specs.Directories.{Segment}
 use Rattle.edits.specs.Asks.{Place, size, places_in, places_from, first_of, larger, largest, others}
@@ -95,7 +95,7 @@ second_takes ps a b h l =
     let w : Largest ps b = largest_is ps b h in
     let top : largest (ps ++ a ∷ []) ≡ Some a =
     largest_push ps a ∙ ap (λ o. Some (or_larger o a)) h ∙ ap (λ t. Some (cond t a b)) (lt-ltb (size b) (size a) l) in
-    let less : All (λ c. size c < size a) ps =
+    let less : AllByRecursion (λ c. size c < size a) ps =
     rw w.all (All-append (λ c. size c < size a) w.before (b ∷ w.after)
     (All-weaker (λ c. size c < size b) (λ c. size c < size a) (λ c k. omega (arith, k, l)) w.before w.shorter)
     (l, All-weaker (λ c. size c ≤ size b) (λ c. size c < size a) (λ c k. omega (arith, k, l)) w.after w.no_longer)) in
@@ -104,7 +104,7 @@ second_takes ps a b h l =
     largest_is : (ps : List Place) (b : Place) → largest ps ≡ Some b → Largest ps b
     largest_is ps b h = rw h at (largest-first ps)
 
-others_push : (b : Place) (before after : List Place) (a : Place) → All (λ c. size c < size b) before
+others_push : (b : Place) (before after : List Place) (a : Place) → AllByRecursion (λ c. size c < size b) before
     → others b ((before ++ b ∷ after) ++ a ∷ []) ≡ others b (before ++ b ∷ after) ++ a ∷ []
 others_push b before after a h =
     ap (others b) (append_assoc before (b ∷ after) (a ∷ []))

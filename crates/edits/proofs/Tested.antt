@@ -1,7 +1,7 @@
 -- The test of lawfulness decides it; INITIALIZE's directory; the files as a list.
-use Rattle.std.proofs.Common.{◌≡◌, ℕ, zero, suc, ◌+◌, ◌-◌, ◌*◌, ◌%◌, ◌<◌, ◌≤◌, Bool, true, false, cond, not, ◌&&◌, ◌||◌, eqb, leb, ◌⊎◌, List, [], ◌∷◌, ◌++◌, length, Some, None, Decides, Option, sym, refl, ap, ◌∙◌, inl, inr, arith}
+use Rattle.std.proofs.Common.{◌≡◌, ℕ, zero, suc, ◌+◌, ◌-◌, ◌*◌, ◌%◌, ◌<◌, ◌≤◌, Bool, true, false, cond, not, ◌&&◌, eqb, leb, ◌⊎◌, List, [], ◌∷◌, length, Decides, sym, refl, ap, ◌∙◌, inl, inr, arith}
 use Rattle.std.specs.Option.{option_map}
-use Rattle.std.specs.List.{AllByRecursion as All}
+use Rattle.std.specs.List.{AllByRecursion}
 use Rattle.std.proofs.ByRecursion.{All-weaker, Decides-by_and}
 use Rattle.std.proofs.lemmas.Bool.{cond_both, cases_Bool, cases_lt, leb-true, le-leb, eq-eqb, eqb-true, ne_eqb, false≢true, and_left, and_from}
 use Rattle.std.proofs.lemmas.Bool.Decides.{nat_tests, Decides-and, Decides-or, Decides-not, Decides-eqb, Decides-like, Decides-below_and}
@@ -9,8 +9,8 @@ use Rattle.volume.specs.declared.entry.Status.{Status}
 use Rattle.volume.specs.declared.entry.Status.TheVariants.{Tentative, Empty, Permanent, Protected}
 use Rattle.codec.specs.declared.name.Name.{Name}
 use Rattle.volume.specs.declared.entry.Entry.{Entry}
-use Rattle.edits.specs.Entries.{file_status, empty_status, tentative_status, is_file, is_empty, is_tentative, is_named, is_misnamed, same_name, empty_of, blocks_of, count, Standing, standing}
-use Rattle.edits.specs.Directories.{Segment, Directory, highest, capacity_of, flat, entries_of, first_block, Begins, meets, File, file_of, files_from, files, file, free_of, free, Shaped, Lawful}
+use Rattle.edits.specs.Entries.{file_status, empty_status, tentative_status, is_file, is_tentative, is_named, is_misnamed, same_name, empty_of, blocks_of, count, standing}
+use Rattle.edits.specs.Directories.{Segment, Directory, highest, capacity_of, flat, entries_of, first_block, Begins, meets, file_of, files_from, free_of, Shaped}
 use Rattle.edits.specs.Tested.{every, up_to, begins, chained, shaped_well, alone, lawful, LawfulDecided, initial, InitialLawful, first_named, used_by, FilesListed, UsedAndFree}
 use Rattle.edits.proofs.Counts.{one, blocks_nil, blocks_cons, count-nil, count-cons, count_yes, count_no, count_head, standing-none}
 use Rattle.edits.proofs.Named.{named_name, file-alone}
@@ -19,11 +19,11 @@ use Rattle.edits.proofs.Split.{capacity_large}
 decides_leb : (a b : ℕ) → Decides (leb a b) (a ≤ b)
 decides_leb a b = (leb-true a b, le-leb a b)
 
-decides_every : {X : Type 0} (p : X → Bool) (P : X → Type 0) → ((x : X) → Decides (p x) (P x)) → (xs : List X) → Decides (every p xs) (All P xs)
+decides_every : {X : Type 0} (p : X → Bool) (P : X → Type 0) → ((x : X) → Decides (p x) (P x)) → (xs : List X) → Decides (every p xs) (AllByRecursion P xs)
 decides_every p P e xs = Decides-by_and p P (every p) e refl (λ _ _. refl) xs
 
 -- each element is counted among them
-each_counted : {X : Type 0} (q : X → X → Bool) → ((x : X) → q x x ≡ true) → (xs : List X) → All (λ x. 1 ≤ count (q x) xs) xs
+each_counted : {X : Type 0} (q : X → X → Bool) → ((x : X) → q x x ≡ true) → (xs : List X) → AllByRecursion (λ x. 1 ≤ count (q x) xs) xs
 each_counted q r [] = tt
 each_counted q r (x ∷ xs) = (
   omega (arith, count_yes (q x) x xs (r x)),
@@ -32,7 +32,7 @@ each_counted q r (x ∷ xs) = (
 )
 
 -- where some pass, one does
-pub one_passes : {X : Type 0} (P : X → Type 0) (p : X → Bool) (xs : List X) → All P xs → 1 ≤ count p xs → (x : X) × P x × (p x ≡ true)
+pub one_passes : {X : Type 0} (P : X → Type 0) (p : X → Bool) (xs : List X) → AllByRecursion P xs → 1 ≤ count p xs → (x : X) × P x × (p x ≡ true)
 one_passes P p [] a h = absurd (omega (arith, h, count-nil p))
 one_passes P p (x ∷ xs) a h =
     elim (cases_Bool (p x)) [
@@ -52,7 +52,7 @@ module _ (ss : List Segment) (h : ℕ) where
   abbrev pub EachOnce : Type 0
   EachOnce = (k : ℕ) → meets k ss ≡ cond (leb 1 k && leb k h) 1 0
 
-  not_met : (k : ℕ) → ((1 ≤ k) × (k ≤ h) → ⊥) → (us : List Segment) → All Inside us → meets k us ≡ 0
+  not_met : (k : ℕ) → ((1 ≤ k) × (k ≤ h) → ⊥) → (us : List Segment) → AllByRecursion Inside us → meets k us ≡ 0
   not_met k out [] a = count-nil (λ s. eqb s.number k)
   not_met k out (s ∷ us) a =
       count_no (λ s. eqb s.number k) s us
@@ -69,7 +69,7 @@ module _ (ss : List Segment) (h : ℕ) where
       absurd (out (leb-true 1 k p.0, leb-true k h p.1)))
       (λ _. refl)
 
-  pub to_each : ((k : ℕ) → k < h → meets (suc k) ss ≡ 1) → All Inside ss → EachOnce
+  pub to_each : ((k : ℕ) → k < h → meets (suc k) ss ≡ 1) → AllByRecursion Inside ss → EachOnce
   to_each m a zero = not_met zero (λ p. omega (arith, p.0)) ss a ∙ sym (outside zero (λ p. omega (arith, p.0)))
   to_each m a (suc k) =
       elim (cases_lt k h) [
@@ -77,7 +77,7 @@ module _ (ss : List Segment) (h : ℕ) where
         | inr l ↦ not_met (suc k) (λ p. omega (arith, p.1)) ss a ∙ sym (outside (suc k) (λ p. omega (arith, p.1)))
       ]
 
-  pub from_each : EachOnce → All Inside ss
+  pub from_each : EachOnce → AllByRecursion Inside ss
   from_each e =
       All-weaker (λ s. 1 ≤ meets s.number ss) Inside
       (λ s m. elim (cases_Bool (leb 1 s.number && leb s.number h)) [
@@ -119,7 +119,7 @@ decides_apart es =
     (λ e. Decides-or (not (is_file e)) (leb (count (is_named e.name) es) 1)
     (Decides-not (is_file e) ((λ x. x), (λ x. x))) (decides_leb (count (is_named e.name) es) 1)) es)
   where
-    all_of : {X : Type 0} (P : X → Type 0) → ((x : X) → P x) → (xs : List X) → All P xs
+    all_of : {X : Type 0} (P : X → Type 0) → ((x : X) → P x) → (xs : List X) → AllByRecursion P xs
     all_of P f [] = tt
     all_of P f (x ∷ xs) = (f x, all_of P f xs)
 

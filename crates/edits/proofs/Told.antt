@@ -1,12 +1,11 @@
 -- What the edits answer, by the place of the file.
-use Rattle.std.proofs.Common.{◌≡◌, ℕ, zero, suc, ◌+◌, ◌≤◌, Bool, true, false, cond, not, ◌&&◌, eqb, ◌⊎◌, List, [], ◌∷◌, length, Ok, Err, Result, sym, refl, ap, ◌∙◌, subst, inl, inr, arith}
+use Rattle.std.proofs.Common.{◌≡◌, ℕ, ◌+◌, ◌≤◌, Bool, true, false, not, ◌&&◌, List, [], ◌∷◌, length, Ok, Err, sym, refl, ap, ◌∙◌, subst, inl, inr, arith}
 use Rattle.std.proofs.lemmas.Bool.{cond-true, cond-false, cases_Bool, eq-eqb, ne_eqb, and_parts, and_from, and_right, false≢true}
 use Rattle.codec.specs.declared.name.Name.{Name}
-use Rattle.volume.specs.declared.fault.FileFault.{FileFault}
 use Rattle.volume.specs.declared.fault.FileFault.TheVariants as fault
 use Rattle.volume.specs.declared.entry.Entry.{Entry}
 use Rattle.edits.specs.Entries.{is_empty, is_named, is_guarded, is_protected, empty_of, renamed, blocks_of, count, any}
-use Rattle.edits.specs.Directories.{Segment, Directory, flat, entries_of, Lawful}
+use Rattle.edits.specs.Directories.{Directory, flat, entries_of, Lawful}
 use Rattle.edits.specs.Asks.{Place, places}
 use Rattle.edits.specs.Edits.{altered, spliced, emptied, holding, at_place, empty_first, change_first, present, guarded, protection, delete, rename, protect}
 use Rattle.edits.proofs.Counts.{one, count-nil, count-cons, count_no}
@@ -61,7 +60,7 @@ module _ (v k : ℕ) (d : Directory) (n : Name) (l : Lawful k v d) (a : Place) (
   pub genuine : Genuine (is_named n) d.segments a
   genuine = go (places (is_named n) d.segments) p (places_genuine (is_named n) d.segments)
     where
-      go : (qs : List Place) → qs ≡ a ∷ ps → Rattle.std.specs.List.All (Genuine (is_named n) d.segments) qs → Genuine (is_named n) d.segments a
+      go : (qs : List Place) → qs ≡ a ∷ ps → Rattle.std.specs.List.AllByRecursion (Genuine (is_named n) d.segments) qs → Genuine (is_named n) d.segments a
       go [] e g = absurd (let y : ◌≡◌ {A = ℕ} 0 1 = cc in omega arith)
       go (b ∷ bs) e g = let y : b ≡ a = cc in subst (Genuine (is_named n) d.segments) y g.0
 

@@ -1,6 +1,6 @@
 -- A directory as a value, its files, and when it is lawful.
-use Rattle.std.specs.Prelude.{◌≡◌, ℕ, zero, suc, ◌+◌, ◌*◌, ◌/◌, ◌%◌, ◌≤◌, Bool, cond, ◌&&◌, List, [], ◌∷◌, ◌++◌, length, Option, nat_eq, nat_le}
-use Rattle.std.specs.List.{AllByRecursion as All}
+use Rattle.std.specs.Prelude.{◌≡◌, ℕ, zero, suc, ◌+◌, ◌*◌, ◌%◌, ◌≤◌, Bool, cond, ◌&&◌, List, [], ◌∷◌, length, Option, nat_eq, nat_le}
+use Rattle.std.specs.List.{AllByRecursion}
 use Rattle.std.specs.Option.{option_map}
 use Rattle.codec.specs.declared.name.Name.{Name}
 use Rattle.volume.specs.declared.entry.Entry.{Entry}
@@ -93,7 +93,7 @@ pub record Shaped (v : ℕ) (d : Directory) : Type 0 where
 -- rules 2 to 9, with so many outputs open
 pub record Lawful (outputs v : ℕ) (d : Directory) : Type 0 where
   pub shaped : Shaped v d
-  pub room : All (λ s. length s.entries ≤ capacity_of d.extra) d.segments
+  pub room : AllByRecursion (λ s. length s.entries ≤ capacity_of d.extra) d.segments
   pub settled : count is_tentative (entries_of d) ≡ outputs
   pub filled : first_block d + blocks_of (entries_of d) ≡ v
   pub named : count is_misnamed (entries_of d) ≡ 0

@@ -1,13 +1,13 @@
 -- What the edits keep.
-use Rattle.std.specs.Prelude.{◌≡◌, ℕ, suc, ◌+◌, ◌-◌, ◌*◌, ◌<◌, ◌≤◌, Bool, true, false, ◌⊎◌, List, [], ◌∷◌, ◌++◌, length, take, drop, IfSome, IfOk, Some, None, Option, ◌≢◌}
+use Rattle.std.specs.Prelude.{◌≡◌, ℕ, suc, ◌+◌, ◌<◌, ◌≤◌, Bool, true, false, ◌⊎◌, List, ◌∷◌, ◌++◌, length, take, drop, IfSome, IfOk, Some, None, ◌≢◌}
 use Rattle.std.specs.List.{prefix_len, suffix_len}
 use Rattle.std.specs.Option.{option_map}
 use Rattle.runfile.specs.declared.field.Ask.{Ask}
 use Rattle.codec.specs.declared.name.Name.{Name}
 use Rattle.volume.specs.declared.entry.Entry.{Entry}
-use Rattle.edits.specs.Entries.{is_empty, is_tentative, is_named, is_protected, empty_of, tentative_of, renamed, put, lawful_words, blocks_of, Standing, standing}
+use Rattle.edits.specs.Entries.{is_empty, is_tentative, empty_of, tentative_of, renamed, put, lawful_words, blocks_of, standing}
 use Rattle.edits.specs.Directories.{Segment, Directory, flat, place_entries, entries_of, first_block, entry_named, File, files, file, free, Lawful}
-use Rattle.edits.specs.Asks.{Place, size, Choice, choice}
+use Rattle.edits.specs.Asks.{size, choice}
 use Rattle.edits.specs.Edits.{split, emptied, protection, Output, Entered, enter, close, purge, delete, rename, protect}
 
 -- an entry stands at index i of the segment at place k

@@ -1,9 +1,7 @@
 -- Small directories, by computation: statuses and lengths of the entries, segment by segment.
-use Rattle.std.specs.Prelude.{◌≡◌, ℕ, zero, suc, ◌+◌, Bool, true, false, List, [], ◌∷◌, map, replicate, Ok, Err, Result}
-use Rattle.runfile.specs.declared.field.Ask.{Ask}
-use Rattle.runfile.specs.declared.field.Ask.TheVariants.{Whole, Half, Exact}
+use Rattle.std.specs.Prelude.{◌≡◌, ℕ, suc, ◌+◌, List, [], ◌∷◌, map, replicate, Ok, Err, Result}
+use Rattle.runfile.specs.declared.field.Ask.TheVariants.{Half, Exact}
 use Rattle.volume.specs.declared.fault.FileFault.{FileFault}
-use Rattle.volume.specs.declared.fault.FileFault.TheVariants as fault
 use Rattle.volume.specs.declared.entry.Status.{Status}
 use Rattle.volume.specs.declared.entry.Status.TheVariants.{Tentative, Empty, Permanent, Protected}
 use Rattle.codec.specs.declared.name.Name.{Name}
@@ -11,7 +9,7 @@ use Rattle.volume.specs.declared.entry.Entry.{Entry}
 use Rattle.volume.specs.Faults.{file_number}
 use Rattle.edits.specs.Entries.{empty_of}
 use Rattle.edits.specs.Directories.{Segment, Directory}
-use Rattle.edits.specs.Edits.{Entered, enter, close, purge, delete}
+use Rattle.edits.specs.Edits.{Entered, enter, close, purge}
 
 -- a name by one number, of no type or of type BAD
 abbrev pub called : ℕ → Name

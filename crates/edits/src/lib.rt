@@ -1,4 +1,5 @@
 // The directory of a volume as a value: its edits, and what they keep.
+#![tactic(auto)]
 
 ghost use Rattle.edits.specs.Asks.{WorkedRows};
 ghost use Rattle.edits.specs.Tested.{LawfulDecided, InitialLawful, FilesListed, UsedAndFree};

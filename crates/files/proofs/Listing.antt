@@ -1,18 +1,17 @@
 -- The answers of DIRECTORY, by where it ends.
-use Rattle.std.proofs.Common.{◌≡◌, ℕ, ◌+◌, ◌*◌, ◌≤◌, Bool, true, false, cond, leb, List, length, Some, None, Ok, Err, Option, Result, sym, refl, ap, ◌∙◌, subst, arith}
+use Rattle.std.proofs.Common.{◌≡◌, ℕ, ◌+◌, ◌*◌, ◌≤◌, Bool, true, false, cond, leb, List, length, Some, None, Ok, Err, Option, refl, ap, arith}
 use Rattle.std.proofs.lemmas.Bool.{leb-true}
 use Rattle.codec.specs.Words.{word_at}
 use Rattle.device.specs.Blocks.{Block}
 use Rattle.volume.specs.declared.fault.FileFault.{FileFault}
 use Rattle.segment.specs.Directories.{chain_of}
 use Rattle.directory.specs.declared.pending.Pending.{Pending}
-use Rattle.directory.specs.declared.placed.Placed.{Placed}
 use Rattle.directory.specs.Walks.{spot, left, OnWay}
 use Rattle.directory.specs.Sounds.{placed_of}
 use Rattle.level.specs.Loads.{directory}
 use Rattle.level.specs.Checks.{check_answer}
-use Rattle.listing.specs.Listings.{listing, listing_answer, listing_after}
-use Rattle.files.specs.Directories.{listed, level_listing, fitted, directory_answer, directory_after}
+use Rattle.listing.specs.Listings.{listing, listing_answer}
+use Rattle.files.specs.Directories.{listed, level_listing}
 
 module _ (n : ℕ) (bs : List Block) (o : Option Pending) where
   pub list_refused : (e : FileFault) → Err e ≡ check_answer n bs o → Err e ≡ level_listing n bs o

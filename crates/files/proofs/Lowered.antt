@@ -2,10 +2,10 @@
 use Rattle.std.proofs.Common.{◌≡◌, ℕ, zero, suc, List, [], ◌∷◌, drop, sym, refl, ap, ◌∙◌}
 use Rattle.device.specs.declared.level.Level.{Level}
 use Rattle.device.specs.Blocks.{Block}
-use Rattle.device.specs.Stacks.{Layer, Stack, put}
+use Rattle.device.specs.Stacks.{Stack, put}
 use Rattle.device.specs.Fixed.{Table, Fixed, tabled}
 use Rattle.layers.specs.LevelStacks.{over_depth, over_levels}
-use Rattle.files.specs.States.{State, with_level}
+use Rattle.files.specs.States.{with_level}
 
 -- levels change neither the bottom nor the pile under them
 pub depth_bottom : (rs : List Level) (d : ℕ) (k : Stack) → (over_depth rs d k).bottom ≡ k.bottom

@@ -1,5 +1,5 @@
 -- DIRECTORY: the workspace, the level, and last the room for the listing.
-use Rattle.std.specs.Prelude.{ℕ, List, length, Some, None, Ok, Err, Option, Result}
+use Rattle.std.specs.Prelude.{ℕ, List, Some, None, Ok, Err, Option, Result}
 use Rattle.device.specs.Blocks.{Block}
 use Rattle.volume.specs.declared.fault.FileFault.{FileFault}
 use Rattle.volume.specs.declared.fault.FileFault.TheVariants.{ListingTooSmall}

@@ -1,4 +1,6 @@
 // The RX01 floppy as a layer: 494 blocks over at least 501.
+#![tactic(auto)]
+
 ghost use Rattle.std.specs.Prelude.{◌≡◌, ◌<◌, length, slice_set};
 ghost use Rattle.device.specs.Blocks.{good};
 ghost use Rattle.device.specs.Stacks.{put};

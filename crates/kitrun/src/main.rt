@@ -1,4 +1,6 @@
 // Packs a zero image of 100 blocks as the run on the standard input says, and prints the report and the listing.
+#![tactic(auto)]
+
 use device::image::Image;
 use files::pack::Pack;
 use run::play::{End, run};

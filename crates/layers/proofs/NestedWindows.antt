@@ -1,10 +1,10 @@
 -- A window over a window is one window, and the whole device is one.
-use Rattle.std.proofs.Common.{◌≡◌, ℕ, ◌+◌, ◌-◌, ◌*◌, ◌/◌, ◌<◌, ◌≤◌, ◌⊎◌, List, length, get_or, sym, refl, ap, ◌∙◌, inl, inr, arith, ext_get_or}
+use Rattle.std.proofs.Common.{◌≡◌, ℕ, ◌+◌, ◌-◌, ◌*◌, ◌<◌, ◌≤◌, ◌⊎◌, List, length, get_or, sym, refl, ap, ◌∙◌, inl, inr, arith, ext_get_or}
 use Rattle.std.proofs.lemmas.Bool.{cases_lt, cond-true, le-leb, eq-eqb}
 use Rattle.device.specs.Blocks.{Block, none, Whole, is_bad, byte}
 use Rattle.device.specs.Stacks.{seen, kept}
 use Rattle.device.proofs.Made.{any_all, same_block, same_blocks}
-use Rattle.device.proofs.Lens.{length_seen, whole_seen, bad_seen, byte-seen, length-kept, whole_kept, bad_kept, byte-kept_at, byte-kept_off}
+use Rattle.device.proofs.Lens.{whole_seen, bad_seen, byte-seen, length-kept, whole_kept, bad_kept, byte-kept_at, byte-kept_off}
 use Rattle.layers.specs.Windows.{window, window_count, length-window}
 use Rattle.layers.specs.LevelStacks.{exactly, exact_count, length-exactly}
 use Rattle.layers.proofs.WindowLaws.{window_block}

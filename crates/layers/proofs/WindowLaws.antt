@@ -1,15 +1,14 @@
 -- A window's blocks are blocks below.
-use Rattle.std.proofs.Common.{◌≡◌, ℕ, ◌+◌, ◌-◌, ◌*◌, ◌/◌, ◌%◌, ◌<◌, ◌≤◌, Bool, true, false, cond, ltb, leb, ◌⊎◌, List, [], ◌∷◌, length, get_or, set, Ok, Err, Result, sym, refl, ap, ◌∙◌, subst, inl, inr, arith, length-set}
-use Rattle.std.proofs.lemmas.Bool.{cases_eq, cases_Bool, cases_lt, cond-true, cond-false, le-leb, leb-true, leb-false, lt-ltb, le-ltb}
-use Rattle.device.specs.declared.fault.DeviceFault.{DeviceFault}
+use Rattle.std.proofs.Common.{◌≡◌, ℕ, ◌+◌, ◌*◌, ◌/◌, ◌%◌, ◌<◌, ◌≤◌, Bool, true, false, cond, leb, ◌⊎◌, List, length, get_or, set, Ok, Err, sym, refl, ap, ◌∙◌, inl, inr, arith, length-set}
+use Rattle.std.proofs.lemmas.Bool.{cases_eq, cond-false, leb-true, le-ltb}
 use Rattle.device.specs.declared.fault.DeviceFault.TheVariants.{PastEnd, BadBlock}
-use Rattle.device.specs.Blocks.{Block, none, good, Whole, is_bad, byte, any}
-use Rattle.device.specs.Stacks.{Layer, seen, kept, Stack, shown, put, over, kept_all}
+use Rattle.device.specs.Blocks.{Block, none, good, Whole, is_bad, byte}
+use Rattle.device.specs.Stacks.{seen, kept, Stack, shown, put, over}
 use Rattle.layers.specs.Windows.{window, window_count, length-window}
 use Rattle.layers.proofs.Elsewhere.{elsewhere, at_elsewhere}
 use Rattle.device.specs.Answers.{fetch, stored}
 use Rattle.device.proofs.Made.{any_all, same_block, same_blocks, placed, byte-set_same, byte-set_other, bad_set, whole_set}
-use Rattle.device.proofs.Fetches.{at_block, fetch_below, ok_err}
+use Rattle.device.proofs.Fetches.{at_block, fetch_below}
 use Rattle.device.proofs.Lens.{length_seen, whole_seen, bad_seen, byte-seen, length-kept, whole_kept, bad_kept, byte-kept_at, byte-kept_off}
 
 pub standing : (s n m b : ℕ) → b < window_count s n m → (s + n ≤ m) × (b < n)

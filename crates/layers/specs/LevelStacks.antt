@@ -1,5 +1,5 @@
 -- What a level table stands for: the whole device, and a window for each mounted level.
-use Rattle.std.specs.Prelude.{◌≡◌, ℕ, zero, suc, ◌+◌, ◌*◌, ◌<◌, ◌≤◌, Bool, true, false, cond, List, length, ◌==◌, refl}
+use Rattle.std.specs.Prelude.{◌≡◌, ℕ, zero, suc, ◌*◌, ◌<◌, ◌≤◌, Bool, true, false, cond, List, length, ◌==◌, refl}
 use Rattle.std.proofs.Common.{arith}
 use Rattle.std.proofs.lemmas.Bool.{eqb-true}
 use Rattle.device.specs.declared.level.Level.{Level}
@@ -8,10 +8,10 @@ use Rattle.device.specs.declared.standing.Standing.TheVariants.{Stands, DoesNotF
 use Rattle.device.specs.Blocks.{Block, Whole}
 use Rattle.device.specs.Tables.{length-made}
 use Rattle.device.specs.Stacks.{Layer, Stack, seen, shown, over}
-use Rattle.device.specs.Held.{Held, shows}
+use Rattle.device.specs.Held.{Held}
 use Rattle.device.specs.Fixed.{Table}
 use Rattle.layers.specs.Nested.{at}
-use Rattle.layers.specs.Windows.{window, window_count, length-window, window_fewer}
+use Rattle.layers.specs.Windows.{window, length-window, window_fewer}
 
 -- n blocks, over exactly n: over another number none
 abbrev pub exact_count : ℕ → ℕ → ℕ

@@ -1,4 +1,6 @@
 // Layers that show whole blocks of what is below: windows, and the levels of mounted containers.
+#![tactic(auto)]
+
 pub mod levels;
 pub mod table;
 pub mod window;

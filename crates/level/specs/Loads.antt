@@ -1,8 +1,8 @@
 -- The directory of a level, with rules 1 and 2 of a sound one.
-use Rattle.std.specs.Prelude.{◌≡◌, ℕ, ◌+◌, ◌-◌, ◌*◌, ◌<◌, cond, List, length, Ok, Err, Result, nat_le, slice_index}
+use Rattle.std.specs.Prelude.{◌≡◌, ℕ, ◌+◌, ◌-◌, ◌*◌, ◌<◌, cond, List, Ok, Err, Result, nat_le, slice_index}
 use Rattle.device.specs.declared.fault.DeviceFault.{DeviceFault}
 use Rattle.device.specs.Blocks.{Block, byte, table}
-use Rattle.codec.specs.Words.{word_at, written}
+use Rattle.codec.specs.Words.{written}
 use Rattle.volume.specs.declared.fault.FileFault.{FileFault}
 use Rattle.volume.specs.declared.fault.FileFault.TheVariants.{NotSound, WorkspaceTooSmall}
 use Rattle.volume.specs.Faults.{after}

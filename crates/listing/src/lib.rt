@@ -1,4 +1,6 @@
 // The listing of a directory.
+#![tactic(auto)]
+
 mod digits;
 pub mod line;
 mod totals;

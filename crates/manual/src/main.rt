@@ -1,4 +1,6 @@
 // Tries worked examples of the RT-11 manuals, and prints each with what came out.
+#![tactic(auto)]
+
 use std::io;
 
 mod dates;

@@ -1,7 +1,7 @@
 -- What is told of a place, in the words of the directory as a value.
 use Rattle.std.proofs.Common.{◌≡◌, ℕ, suc, ◌<◌, ◌≤◌, Bool, true, List, [], ◌∷◌, length, IfSome, Some, None, Option, sym, refl, ap, ◌∙◌, subst, MatchOption}
 use Rattle.std.specs.Option.{option_map}
-use Rattle.std.specs.List.{AllByRecursion as All}
+use Rattle.std.specs.List.{AllByRecursion}
 use Rattle.codec.specs.Words.{word_at}
 use Rattle.codec.specs.declared.name.Name.{Name}
 use Rattle.runfile.specs.declared.field.Ask.{Ask}
@@ -39,7 +39,7 @@ told-first : (p : Entry → Bool) (dir : List ℕ) (a : Place) (ps : List Place)
     → Told p dir a.segment a.index (number_of dir a) (place_start (value_of dir) a) a.entry
 told-first p dir a ps h =
     let g : Genuine p (value_of dir).segments a
-    = (subst (All (Genuine p (value_of dir).segments)) h (places_genuine p (value_of dir).segments)).0 in
+    = (subst (AllByRecursion (Genuine p (value_of dir).segments)) h (places_genuine p (value_of dir).segments)).0 in
     record {
       rest = ps;
       all = h;

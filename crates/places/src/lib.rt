@@ -1,4 +1,6 @@
 // Where files, empties and the tentative entry of a sound directory stand.
+#![tactic(auto)]
+
 ghost use Rattle.places.specs.Laws.{FirstStarts, FileIsTold, TentativeIsTold, EmptyIsTold, LookupAgrees};
 
 pub mod choose;

@@ -1,6 +1,6 @@
 -- Rules 8 and 9: names, file by file.
 use Rattle.std.proofs.Common.{◌≡◌, zero, suc, Bool, true, false, cond, not, ◌&&◌, eqb, ltb, ◌⊎◌, List, [], ◌∷◌, Some, Decides, Option, refl, ap, inl, inr, ⊎_elim, arith}
-use Rattle.std.specs.List.{AllByRecursion as All}
+use Rattle.std.specs.List.{AllByRecursion}
 use Rattle.std.proofs.lemmas.Bool.{false≢true}
 use Rattle.std.proofs.ByRecursion.{All-get_or, All-from_get_or, Decides-by_and}
 use Rattle.std.proofs.lemmas.Bool.Decides.{Decides-and, Decides-not, Decides-like, Decides-ltb, Decides-eqb}
@@ -49,7 +49,7 @@ none-cond : (b : Bool) (p : Placed) (o : Option Placed) → none (cond b (Some p
 none-cond true p o = refl
 none-cond false p o = refl
 
-none-decided : (n : Name) (ps : List Placed) → Decides (none (first_named n ps)) (All (λ p. Named n p → ⊥) ps)
+none-decided : (n : Name) (ps : List Placed) → Decides (none (first_named n ps)) (AllByRecursion (λ p. Named n p → ⊥) ps)
 unfolding first_named
 none-decided n =
     Decides-by_and (λ p. not (is_named n p)) (λ p. Named n p → ⊥) (λ ps. none (first_named n ps))
@@ -58,7 +58,7 @@ none-decided n =
 
 -- the first file has a name of its own, and the others are apart
 abbrev Alone : Placed → List Placed → Type 0
-Alone p ps = IsFile p → All (λ q. Named p.name q → ⊥) ps
+Alone p ps = IsFile p → AllByRecursion (λ q. Named p.name q → ⊥) ps
 
 apart_more : (p : Placed) (ps : List Placed) → Alone p ps × FilesApart ps → FilesApart (p ∷ ps)
 apart_more p ps h i zero d l m f g e = absurd (omega arith)

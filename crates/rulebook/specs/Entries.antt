@@ -1,6 +1,6 @@
 -- Rule 6, of the entries of segments.
 use Rattle.std.specs.Prelude.{◌≡◌, ℕ, ◌+◌, ◌*◌, ◌/◌, ◌<◌, ◌≤◌, ◌⊎◌, List, length, Some, None, Decides, Option, ◌≢◌, slice_index, slice_index_or}
-use Rattle.std.specs.List.{ContainsAt as Has, AllByRecursion as All}
+use Rattle.std.specs.List.{ContainsAt, AllByRecursion}
 use Rattle.codec.specs.Words.{word_at}
 use Rattle.volume.specs.declared.entry.Status.TheVariants.{Tentative}
 use Rattle.segment.specs.Chains.{segment_at}
@@ -23,11 +23,11 @@ LawfulSegment x bytes = (n : ℕ) × (n ≤ 1012 / (14 + x)) × EntriesAt x byte
 
 -- rule 6, first part: each segment of the chain ks is lawful
 abbrev pub SegmentsLawful : ℕ → List ℕ → List ℕ → Type 0
-SegmentsLawful x dir ks = All (λ k. LawfulSegment x (segment_at dir k)) ks
+SegmentsLawful x dir ks = AllByRecursion (λ k. LawfulSegment x (segment_at dir k)) ks
 
 -- rule 6, second part, while no output is open: no entry is tentative
 abbrev pub NoneTentative : List Placed → Type 0
-NoneTentative ps = All (λ p. p.status ≢ Tentative) ps
+NoneTentative ps = AllByRecursion (λ p. p.status ≢ Tentative) ps
 
 -- while one is open: one entry is tentative, and no other
 abbrev pub OneTentative : List Placed → Type 0
@@ -45,7 +45,7 @@ TwoStand x bytes i others =
 abbrev pub TentativeLawful : ℕ → List ℕ → List ℕ → Option Pending → List Placed → Type 0
 TentativeLawful x dir ks None ps = NoneTentative ps
 TentativeLawful x dir ks (Some p) ps =
-    OneTentative ps × Has ks p.segment × TwoStand x (segment_at dir p.segment) p.index p.entries
+    OneTentative ps × ContainsAt ks p.segment × TwoStand x (segment_at dir p.segment) p.index p.entries
 
 abbrev pub RuleSixSegments : Type 0
 RuleSixSegments = (x : ℕ) (dir ks : List ℕ) → Decides (every (lawful_at x dir) ks) (SegmentsLawful x dir ks)

@@ -1,6 +1,6 @@
 -- Rules 3 to 9 of a directory, and the first that is broken.
 use Rattle.std.specs.Prelude.{◌≡◌, ℕ, ◌+◌, ◌*◌, ◌≤◌, ◌⊎◌, List, Option}
-use Rattle.std.specs.List.{AllByRecursion as All}
+use Rattle.std.specs.List.{AllByRecursion}
 use Rattle.codec.specs.Words.{word_at}
 use Rattle.segment.specs.Chains.{next_of}
 use Rattle.segment.specs.Rule4.{Links, times, MeetsEachOnce}
@@ -33,7 +33,7 @@ entries dir ks = all_placed (extra dir) dir ks (first_block dir)
 -- ks is the chain from segment 1, which meets each of 1 to H once and ends
 abbrev pub IsChain : List ℕ → List ℕ → Type 0
 IsChain dir ks =
-    Links (next_of dir) 1 ks × All (λ k. k ≤ highest dir) ks × ((j : ℕ) → 1 ≤ j → j ≤ highest dir → times j ks ≡ 1)
+    Links (next_of dir) 1 ks × AllByRecursion (λ k. k ≤ highest dir) ks × ((j : ℕ) → 1 ≤ j → j ≤ highest dir → times j ks ≡ 1)
 
 -- each rule, of a directory and, once there is one, its chain
 abbrev pub Third : List ℕ → Type 0

@@ -1,6 +1,6 @@
 -- Rules 1 and 2, of the size of a level, and rules 3, 5 and 7, of the header words of segments.
 use Rattle.std.specs.Prelude.{◌≡◌, ℕ, ◌+◌, ◌*◌, ◌%◌, ◌<◌, ◌≤◌, List, [], ◌∷◌, length, take, Decides, nat_le, slice_index}
-use Rattle.std.specs.List.{AllByRecursion as All}
+use Rattle.std.specs.List.{AllByRecursion}
 use Rattle.codec.specs.Words.{word_at}
 use Rattle.volume.specs.Levels.{segments_fit}
 use Rattle.segment.specs.Chains.{segment_at}
@@ -18,7 +18,7 @@ HighestLawful h s = (1 ≤ h) × (h ≤ s)
 
 -- rule 5: x is even, at most 64, and the extra bytes of each segment of the chain ks
 abbrev pub ExtraLawful : ℕ → List ℕ → List ℕ → Type 0
-ExtraLawful x dir ks = (x % 2 ≡ 0) × (x ≤ 64) × All (λ k. word_at (segment_at dir k) 6 ≡ x) ks
+ExtraLawful x dir ks = (x % 2 ≡ 0) × (x ≤ 64) × AllByRecursion (λ k. word_at (segment_at dir k) 6 ≡ x) ks
 
 -- the blocks of the entries of some segments together
 abbrev pub blocks_along : ℕ → List ℕ → List ℕ → ℕ

@@ -1,6 +1,6 @@
 -- Rules 8 and 9, of the names of files.
 use Rattle.std.specs.Prelude.{◌≡◌, ℕ, ◌<◌, ◌⊎◌, List, length, get_or, Decides, ◌≢◌, slice_index_or}
-use Rattle.std.specs.List.{AllByRecursion as All}
+use Rattle.std.specs.List.{AllByRecursion}
 use Rattle.codec.specs.declared.name.Name.{Name}
 use Rattle.volume.specs.declared.entry.Status.TheVariants.{Permanent, Protected}
 use Rattle.directory.specs.declared.placed.Placed.{Placed}
@@ -15,7 +15,7 @@ WordsBelow n = (n.first < 64000) × (n.second < 64000) × (n.kind < 64000)
 
 -- rule 8: the three name words of a file are below 64,000
 abbrev pub FilesWellNamed : List Placed → Type 0
-FilesWellNamed ps = All (λ p. IsFile p → WordsBelow p.name) ps
+FilesWellNamed ps = AllByRecursion (λ p. IsFile p → WordsBelow p.name) ps
 
 -- rule 9: of two files, at different places among the entries, the names differ
 abbrev pub FilesApart : List Placed → Type 0

@@ -1,7 +1,7 @@
 -- The steps of a run, from field to field.
-use Rattle.std.proofs.Common.{◌≡◌, ℕ, zero, suc, ◌+◌, ◌-◌, ◌*◌, ◌<◌, ◌≤◌, true, false, cond, ◌⊎◌, List, [], ◌∷◌, length, get_or, take, drop, Ok, Result, sym, refl, ap, ◌∙◌, inl, inr, ⊎_elim, arith}
+use Rattle.std.proofs.Common.{◌≡◌, ℕ, zero, suc, ◌+◌, ◌*◌, ◌<◌, ◌≤◌, true, false, cond, List, [], ◌∷◌, length, drop, Ok, Result, sym, refl, ap, ◌∙◌, ⊎_elim, arith}
 use Rattle.std.proofs.lemmas.List.{length-drop}
-use Rattle.std.proofs.lemmas.Bool.{cond-true, cond-false, cases_lt, le-leb, lt-leb, lt-ltb, le-ltb}
+use Rattle.std.proofs.lemmas.Bool.{cond-true, cond-false, cases_lt, lt-ltb, le-ltb}
 use Rattle.files.specs.States.{State}
 use Rattle.runfile.specs.declared.fault.FieldFault.{FieldFault}
 use Rattle.runfile.specs.declared.fault.FieldFault.TheVariants.{UnknownTag}
@@ -10,7 +10,7 @@ use Rattle.runfile.specs.declared.field.Field.TheVariants as fields
 use Rattle.run.specs.declared.play.End.TheVariants.{Done, CutShort, ReportFull, RunTooLong, WorkspaceTooSmall}
 use Rattle.runfile.specs.Orders.{Order, order_in, decoded}
 use Rattle.runfile.proofs.Pieces.{sized_whole, sized_short}
-use Rattle.runfile.specs.Pieces.{Piece, ended, whole, short, sized, next_piece}
+use Rattle.runfile.specs.Pieces.{Piece, ended, whole, short, next_piece}
 use Rattle.run.specs.Fields.{refused, known, obeyed, performed}
 use Rattle.run.specs.Play.{Item, field, rump, joined, up_to, Played, played, play, ran, items, room, reported}
 

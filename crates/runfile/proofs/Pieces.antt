@@ -1,7 +1,7 @@
 -- A field in the words of the code that reads it.
 use Rattle.std.proofs.Common.{◌≡◌, ℕ, ◌+◌, ◌*◌, ◌<◌, ◌≤◌, List, [], ◌∷◌, length, get_or, take, drop, arith}
 use Rattle.std.proofs.lemmas.Bool.{cond-true, cond-false, le-leb, lt-leb}
-use Rattle.runfile.specs.Pieces.{Piece, whole, short, sized, next_piece}
+use Rattle.runfile.specs.Pieces.{whole, short, sized, next_piece}
 
 -- the piece of three bytes and more, in the words of the code
 pub piece_at : (run : List ℕ) (low high : ℕ) → 3 ≤ length run → low ≡ get_or run 1 0 → high ≡ get_or run 2 0 → next_piece run ≡ sized (get_or run 0 0) (low + 256 * high) (drop 3 run)

@@ -1,6 +1,6 @@
 -- Entries that are read have zeros behind their extra bytes.
 use Rattle.std.proofs.Common.{◌≡◌, ℕ, ◌+◌, ◌-◌, ◌≤◌, List, [], ◌∷◌, ◌++◌, length, take, drop, replicate, Some, None, Option, sym, ap, ◌∙◌, subst, arith}
-use Rattle.std.specs.List.{AllByRecursion as All}
+use Rattle.std.specs.List.{AllByRecursion}
 use Rattle.std.specs.Option.{option_map}
 use Rattle.std.proofs.lemmas.List.{append_assoc, length-append, length-replicate, length-take, take_at, replicate-append-replicate}
 use Rattle.volume.specs.declared.entry.Status.{Status}
@@ -49,7 +49,7 @@ module _ (x : ℕ) (h : x ≤ 64) where
   pub lawful_entry : (bs : List ℕ) (e : Entry) → entry_of x bs ≡ Some e → LawfulEntry x e
   lawful_entry bs e p = lawful_by bs (status_in bs) e p
 
-  pub lawful-entries : (n : ℕ) (bs : List ℕ) (es : List Entry) → entries_in n x bs ≡ Some es → All (LawfulEntry x) es
+  pub lawful-entries : (n : ℕ) (bs : List ℕ) (es : List Entry) → entries_in n x bs ≡ Some es → AllByRecursion (LawfulEntry x) es
   lawful-entries n bs [] p = tt
   lawful-entries n bs (e ∷ es) p =
       let f = front n x bs e es p in

@@ -1,6 +1,6 @@
 -- What is written is read back.
 use Rattle.std.proofs.Common.{◌≡◌, ℕ, ◌+◌, ◌-◌, ◌*◌, ◌/◌, ◌%◌, ◌≤◌, List, [], ◌∷◌, ◌++◌, length, take, drop, replicate, Some, sym, refl, ap, ◌∙◌, add-mul, one-mul, zero-mul, arith}
-use Rattle.std.specs.List.{flat_map, AllByRecursion as All}
+use Rattle.std.specs.List.{flat_map, AllByRecursion}
 use Rattle.std.specs.Option.{option_map}
 use Rattle.std.proofs.lemmas.List.{append_assoc, take_at, drop_at, length-take-le, length-append, length-replicate}
 use Rattle.codec.specs.declared.name.Name.{Name}
@@ -54,7 +54,7 @@ entry_back x e rest l =
     (name_back e.name.first e.name.second e.name.kind) (word_back e.length) (word_back e.job) (word_back e.date)
     (l.padded ∙ ap extra_of (sym (take_at (take x e.extra) rest x (length-take-le x e.extra l.wide)))))
 
-entries_back : (x : ℕ) (es : List Entry) (n : ℕ) (rest : List ℕ) → length es ≤ n → All (LawfulEntry x) es → word_at rest 0 ≡ 2048
+entries_back : (x : ℕ) (es : List Entry) (n : ℕ) (rest : List ℕ) → length es ≤ n → AllByRecursion (LawfulEntry x) es → word_at rest 0 ≡ 2048
     → entries_in n x (flat_map (entry_bytes x) es ++ rest) ≡ Some es
 entries_back x [] n rest l a h = entries_end n x rest h
 entries_back x (e ∷ es) n rest l a h =
@@ -69,13 +69,13 @@ entries_back x (e ∷ es) n rest l a h =
     ∙ ap (λ z. option_map (λ ys. e ∷ ys) (entries_in (n - 1) x z)) past
     ∙ ap (option_map (λ ys. e ∷ ys)) (entries_back x es (n - 1) rest (omega arith) a.1 h)
 
-length-entries : (x : ℕ) (es : List Entry) → All (LawfulEntry x) es → length (flat_map (entry_bytes x) es) ≡ length es * (14 + x)
+length-entries : (x : ℕ) (es : List Entry) → AllByRecursion (LawfulEntry x) es → length (flat_map (entry_bytes x) es) ≡ length es * (14 + x)
 length-entries x [] a = sym (zero-mul (14 + x))
 length-entries x (e ∷ es) a =
     length-append (entry_bytes x e) (flat_map (entry_bytes x) es)
     ∙ omega (arith, length_entry x e a.0, length-entries x es a.1, add-mul (length es) 1 (14 + x), one-mul (14 + x))
 
-length_used : (h : Header) (es : List Entry) → All (LawfulEntry h.extra) es → length (used_bytes h es) ≡ 12 + length es * (14 + h.extra)
+length_used : (h : Header) (es : List Entry) → AllByRecursion (LawfulEntry h.extra) es → length (used_bytes h es) ≡ 12 + length es * (14 + h.extra)
 unfolding used_bytes header_bytes
 length_used h es a =
     let js : List ℕ = flat_map (entry_bytes h.extra) es in
@@ -85,7 +85,7 @@ zeros_behind : (bs : List ℕ) (n : ℕ) → length bs ≤ n → length (bs ++ r
 zeros_behind bs n h = simp (length-append, length-replicate) (omega arith)
 
 -- a segment has 1,024 bytes
-pub length_segment : (h : Header) (es : List Entry) → length es ≤ capacity_of h.extra → All (LawfulEntry h.extra) es
+pub length_segment : (h : Header) (es : List Entry) → length es ≤ capacity_of h.extra → AllByRecursion (LawfulEntry h.extra) es
     → length (segment_bytes h es) ≡ 1024
 unfolding segment_bytes
 length_segment h es l a = zeros_behind (used_bytes h es) 1024 (omega (arith, length_used h es a, room_for h.extra (length es) l))

@@ -1,7 +1,7 @@
 -- Rule 4: a chain of h segments of 1 to h that ends meets each exactly once.
 use Rattle.std.proofs.Common.{◌≡◌, ℕ, zero, suc, ◌+◌, ◌<◌, ◌≤◌, Bool, true, false, cond, ◌||◌, eqb, ltb, List, [], ◌∷◌, length, is_some, Some, None, Decides, Option, sym, refl, ap, ◌∙◌, subst, ⊎_elim, arith}
 use Rattle.std.specs.Option.{option_map}
-use Rattle.std.specs.List.{AllByRecursion as All}
+use Rattle.std.specs.List.{AllByRecursion}
 use Rattle.std.proofs.lemmas.Bool.{eq-eqb, ne_eqb, eqb-true, eqb-false, ltb-false, le-ltb, cases_eq, or_parts, or_from}
 use Rattle.segment.specs.Chains.{chain_from}
 use Rattle.segment.specs.Rule4.{Links, times, MeetsEachOnce, RuleFour}
@@ -44,7 +44,7 @@ up_to_cons (suc n) k ks l h =
     (cases_eq (suc n) k)
 
 module _ (h : ℕ) (next : ℕ → ℕ) where
-  up_to_links : (k : ℕ) (ks : List ℕ) → Links next k ks → All (λ j. j ≤ h) ks → up_to h ks ≡ length ks
+  up_to_links : (k : ℕ) (ks : List ℕ) → Links next k ks → AllByRecursion (λ j. j ≤ h) ks → up_to h ks ≡ length ks
   up_to_links k [] l a = up_to_none h
   up_to_links k (j ∷ ks) l a =
       up_to_cons h j ks (omega (arith, l.0, l.1)) a.0 ∙ ap (λ n. 1 + n) (up_to_links (next k) ks l.2 a.1) ∙ omega arith
@@ -100,7 +100,7 @@ module _ (h : ℕ) (next : ℕ → ℕ) where
   pub record Along (n k : ℕ) (ks : List ℕ) : Type 0 where
     pub links : Links next k ks
     pub long : length ks ≡ n
-    pub below : All (λ j. j ≤ h) ks
+    pub below : AllByRecursion (λ j. j ≤ h) ks
 
   to_end : (b : Bool) (k : ℕ) (ks : List ℕ) → (b ≡ true → k ≡ 0) → cond b (Some []) None ≡ Some ks → Along 0 k ks
   to_end true k [] f e = record { links = f refl; long = refl; below = tt }
@@ -125,7 +125,7 @@ module _ (h : ℕ) (next : ℕ → ℕ) where
       let z : k ≡ 0 → ⊥ = eqb-false k 0 t.0 in (omega arith, ltb-false h k t.1))
       (λ ys q. along n (next k) ys q) e
 
-  pub from_links : (k : ℕ) (ks : List ℕ) → Links next k ks → All (λ j. j ≤ h) ks → chain_from (length ks) h next k ≡ Some ks
+  pub from_links : (k : ℕ) (ks : List ℕ) → Links next k ks → AllByRecursion (λ j. j ≤ h) ks → chain_from (length ks) h next k ≡ Some ks
   unfolding chain_from
   from_links k [] l a = rw (eq-eqb k 0 l)
   from_links k (j ∷ ks) l a =
@@ -134,11 +134,11 @@ module _ (h : ℕ) (next : ℕ → ℕ) where
       (ap (λ z. Some (z ∷ ks)) (sym l.0))
 
   -- the segments of a chain that is found are of 1 to h
-  above_none : (k : ℕ) (ks : List ℕ) → Links next k ks → All (λ j. j ≤ h) ks → All (λ j. (1 ≤ j) × (j ≤ h)) ks
+  above_none : (k : ℕ) (ks : List ℕ) → Links next k ks → AllByRecursion (λ j. j ≤ h) ks → AllByRecursion (λ j. (1 ≤ j) × (j ≤ h)) ks
   above_none k [] l a = tt
   above_none k (j ∷ ks) l a = ((omega (arith, l.0, l.1), a.0), above_none (next k) ks l.2 a.1)
 
-  pub chain_inside : (n k : ℕ) (ks : List ℕ) → chain_from n h next k ≡ Some ks → All (λ j. (1 ≤ j) × (j ≤ h)) ks
+  pub chain_inside : (n k : ℕ) (ks : List ℕ) → chain_from n h next k ≡ Some ks → AllByRecursion (λ j. (1 ≤ j) × (j ≤ h)) ks
   chain_inside n k ks e = let g = along n k ks e in above_none k ks g.links g.below
 
   -- and each is met once

@@ -1,6 +1,6 @@
 -- What is written is read back.
 use Rattle.std.specs.Prelude.{◌≡◌, ℕ, ◌≤◌, List, ◌++◌, length, Some}
-use Rattle.std.specs.List.{AllByRecursion as All}
+use Rattle.std.specs.List.{AllByRecursion}
 use Rattle.codec.specs.Words.{word_at}
 use Rattle.volume.specs.declared.entry.Entry.{Entry}
 use Rattle.volume.specs.declared.segment.Header.{Header}
@@ -28,14 +28,14 @@ HeaderReadsBack = (h : Header) (es : List Entry) → HeaderRead h (segment_bytes
 -- the entries of a segment
 abbrev pub SegmentReadsBack : Type 0
 SegmentReadsBack =
-    (h : Header) (es : List Entry) → length es ≤ capacity_of h.extra → All (LawfulEntry h.extra) es
+    (h : Header) (es : List Entry) → length es ≤ capacity_of h.extra → AllByRecursion (LawfulEntry h.extra) es
     → segment_entries h.extra (segment_bytes h es) ≡ Some es
 
 -- entries that were read can be written
 abbrev pub ReadAreLawful : Type 0
 ReadAreLawful =
     (x : ℕ) (bs : List ℕ) (es : List Entry) → x ≤ 64 → segment_entries x bs ≡ Some es
-    → (length es ≤ capacity_of x) × All (LawfulEntry x) es
+    → (length es ≤ capacity_of x) × AllByRecursion (LawfulEntry x) es
 
 -- and then read again
 abbrev pub RewrittenReadsBack : Type 0

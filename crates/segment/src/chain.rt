@@ -1,6 +1,6 @@
 // The directory in the caller's workspace: segment k, counted from 1, is the 1,024 bytes from 1,024 × (k − 1) on.
 ghost use Rattle.std.specs.Prelude.{◌≡◌, ◌*◌, ◌≤◌, length, IfSome};
-ghost use Rattle.std.specs.List.{AllByRecursion as All};
+ghost use Rattle.std.specs.List.{AllByRecursion};
 ghost use Rattle.std.specs.Option.{option_map};
 ghost use Rattle.segment.specs.Chains.{segment_at, next_of, chain_from, order_of};
 ghost use Rattle.segment.specs.Rule4.{RuleFour};
@@ -36,7 +36,7 @@ pub fn next_of(dir: &[u8], k: usize) -> usize
 pub fn chain_of(dir: &[u8], highest: usize) -> Option<Chain>
     requires { (highest ≤ 31) × (1024 * highest ≤ length dir.now) }
     ensures order { option_map order_of result ≡ chain_from highest highest (next_of dir.now) 1 }
-    ensures inside { IfSome result (λ c. (c.count ≡ highest) × All (λ k. (1 ≤ k) × (k ≤ highest)) (order_of c)) }
+    ensures inside { IfSome result (λ c. (c.count ≡ highest) × AllByRecursion (λ k. (1 ≤ k) × (k ≤ highest)) (order_of c)) }
 {
     let mut order = [0; 31];
     let mut k = 1;

@@ -1,6 +1,6 @@
 -- Entries that are decoded, edited and then written have zeros behind their extra bytes.
 use Rattle.std.proofs.Common.{ℕ, ◌+◌, ◌≤◌, Bool, true, false, cond, eqb, List, [], ◌∷◌, ◌++◌, take, drop}
-use Rattle.std.specs.List.{between, AllByRecursion as All}
+use Rattle.std.specs.List.{between, AllByRecursion}
 use Rattle.std.proofs.ByRecursion.{All-append, All-take, All-drop, All-map, All-weaker}
 use Rattle.codec.specs.declared.name.Name.{Name}
 use Rattle.volume.specs.declared.entry.Status.{Status}
@@ -17,7 +17,7 @@ use Rattle.edits.specs.Values.{cleaned, value_at}
 use Rattle.edits.specs.Edits.{spliced, rest, run_start, run_end, emptied}
 
 module _ (x : ℕ) where
-  pub spliced-lawful : (i k : ℕ) (new es : List Entry) → All (LawfulEntry x) new → All (LawfulEntry x) es → All (LawfulEntry x) (spliced i k new es)
+  pub spliced-lawful : (i k : ℕ) (new es : List Entry) → AllByRecursion (LawfulEntry x) new → AllByRecursion (LawfulEntry x) es → AllByRecursion (LawfulEntry x) (spliced i k new es)
   unfolding spliced
   spliced-lawful i k new es n h =
       All-append (LawfulEntry x) (take i es) (new ++ drop (i + k) es) (All-take (LawfulEntry x) i es h)
@@ -38,10 +38,10 @@ module _ (x : ℕ) where
     pub tentative_lawful : (n : Name) (date given : ℕ) → LawfulEntry x (tentative_of n date given)
     tentative_lawful n date given = let l = empty_lawful x h given in record { wide = l.wide; padded = l.padded }
 
-    pub rest-lawful : (n : ℕ) → All (LawfulEntry x) (rest n)
+    pub rest-lawful : (n : ℕ) → AllByRecursion (LawfulEntry x) (rest n)
     rest-lawful n = go (eqb n 0)
       where
-        go : (b : Bool) → All (LawfulEntry x) (cond b [] (empty_of n ∷ []))
+        go : (b : Bool) → AllByRecursion (LawfulEntry x) (cond b [] (empty_of n ∷ []))
         go true = tt
         go false = (empty_lawful x h n, tt)
 
@@ -53,14 +53,14 @@ module _ (x : ℕ) where
         go false = l
 
     -- what is decoded
-    pub lawful_slots : (dir : List ℕ) (k : ℕ) → Readable x dir k → All (LawfulEntry x) (value_at x dir k)
+    pub lawful_slots : (dir : List ℕ) (k : ℕ) → Readable x dir k → AllByRecursion (LawfulEntry x) (value_at x dir k)
     lawful_slots dir k r =
         All-map (LawfulEntry x) cleaned (entries_at x dir k)
         (All-weaker (LawfulEntry x) (λ (e : Entry). LawfulEntry x (cleaned e)) cleaned-lawful (entries_at x dir k)
         (read_lawful x (segment_at dir k) (entries_at x dir k) h (entries_read x dir k r.2)).1)
 
     -- and has an entry made empty
-    pub emptied-lawful : (i : ℕ) (es : List Entry) → All (LawfulEntry x) es → All (LawfulEntry x) (emptied i es)
+    pub emptied-lawful : (i : ℕ) (es : List Entry) → AllByRecursion (LawfulEntry x) es → AllByRecursion (LawfulEntry x) (emptied i es)
     unfolding emptied
     emptied-lawful i es a =
         All-append (LawfulEntry x) (take (run_start es i) es)

@@ -1,4 +1,6 @@
 // One segment of the directory as a list of entries: decoded, edited, and encoded again.
+#![tactic(auto)]
+
 pub mod bytes;
 pub mod join;
 pub mod splice;

@@ -1,6 +1,5 @@
 -- One segment of a directory written to its two blocks.
-use Rattle.std.proofs.Common.{◌≡◌, ℕ, suc, ◌+◌, ◌-◌, ◌*◌, ◌/◌, ◌<◌, ◌≤◌, ◌⊎◌, List, [], ◌∷◌, ◌++◌, length, get_or, take, drop, set, sym, refl, ap, ◌∙◌, inl, inr, arith, length-set}
-use Rattle.std.specs.List.{AllByRecursion as All}
+use Rattle.std.proofs.Common.{◌≡◌, ℕ, suc, ◌+◌, ◌-◌, ◌*◌, ◌<◌, ◌≤◌, ◌⊎◌, List, [], ◌∷◌, length, get_or, take, drop, set, sym, refl, ap, ◌∙◌, inl, inr, arith, length-set}
 use Rattle.std.proofs.lemmas.Bool.{cases_lt}
 use Rattle.std.proofs.lemmas.List.{get_or-append_right, get_or-drop, get_or-take, length-append, length-take-le, length-drop, ext_get_or}
 use Rattle.device.specs.Blocks.{Block, good, byte}
@@ -8,10 +7,7 @@ use Rattle.device.specs.Tables.{length-table, get_or-table}
 use Rattle.device.proofs.Made.{byte-set_same, byte-set_other}
 use Rattle.codec.specs.Words.{written}
 use Rattle.volume.specs.Transfers.{overwritten, halves}
-use Rattle.segment.specs.Directories.{Directory}
-use Rattle.edits.specs.Laid.{Laid}
 use Rattle.carry.specs.Carries.{image, imaged}
-use Rattle.carry.specs.Writes.{Fits}
 use Rattle.carry.proofs.Writes.{image-long}
 use Rattle.level.specs.Loads.{directory_byte, directory}
 use Rattle.level.proofs.Fetching.{written_below, written_at}

@@ -1,6 +1,6 @@
 -- Segments of a directory written to the blocks of a level.
 use Rattle.std.specs.Prelude.{◌≡◌, ℕ, ◌+◌, ◌*◌, ◌≤◌, List, [], ◌∷◌, length}
-use Rattle.std.specs.List.{AllByRecursion as All}
+use Rattle.std.specs.List.{AllByRecursion}
 use Rattle.device.specs.Blocks.{Block}
 use Rattle.volume.specs.Transfers.{overwritten, halves}
 use Rattle.segment.specs.Directories.{Directory}
@@ -18,5 +18,5 @@ rewritten bs d (m ∷ ms) = rewritten (overwritten bs (4 + 2 * m.number) (halves
 abbrev pub RewrittenReads : Type 0
 RewrittenReads =
     (bs : List Block) (d : Directory) (ms : List Laid) (s : ℕ)
-    → 6 + 2 * s ≤ length bs → All (Fits (1024 * s) d.extra) ms
+    → 6 + 2 * s ≤ length bs → AllByRecursion (Fits (1024 * s) d.extra) ms
     → directory (rewritten bs d ms) s ≡ imaged (directory bs s) d ms

@@ -1,4 +1,6 @@
 // Segments of the directory written from the workspace to a level.
+#![tactic(auto)]
+
 ghost use Rattle.std.specs.Prelude.{◌≡◌, ◌+◌, ◌*◌, ◌≤◌, length, Ok};
 ghost use Rattle.device.specs.Held.{shows};
 ghost use Rattle.device.specs.Stacks.{Became};

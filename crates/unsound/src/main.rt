@@ -1,5 +1,7 @@
 // Tries the check of a level on directories that break its rules one by one and several at once, then LOOKUP and READ, and prints
 // a line for each: 00 where the call is accepted, else the number that is returned and its detail.
+#![tactic(auto)]
+
 use device::image::Image;
 use level::check::check;
 use level::lookup::{lookup, read_file};

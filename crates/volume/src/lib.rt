@@ -1,4 +1,6 @@
 // An RT-11 volume on a device: its home block and its directory.
+#![tactic(auto)]
+
 pub mod entry;
 pub mod fault;
 mod home;

@@ -1,7 +1,6 @@
 use Rattle.std.proofs.Common.{◌≡◌, ℕ, ◌*◌, ◌<◌, List, length, sym, ap, subst}
 use Rattle.device.specs.Blocks.{Block}
 use Rattle.device.specs.Stacks.{Stack, shown, counts}
-use Rattle.device.specs.Laws.{PileLaws}
 use Rattle.device.proofs.Lens.{length-seen_all, seen-kept_all, kept-seen_all, kept-kept_all, inside_all, apart_all, byte-seen_all, frame_all}
 use Rattle.device.proofs.pile_laws.Goals as goal
 

@@ -1,5 +1,4 @@
 use Rattle.std.proofs.Common.{refl}
-use Rattle.edits.specs.Entries.{count}
 use Rattle.edits.specs.Asks.{places_in, places_from, first_of, largest, others}
 use Rattle.edits.proofs.worked_rows.Goals as goal
 

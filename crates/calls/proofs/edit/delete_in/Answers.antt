@@ -1,16 +1,16 @@
-use Rattle.std.proofs.Common.{refl, ap, ◌∙◌}
+use Rattle.std.proofs.Common.{refl}
 use Rattle.calls.proofs.Loading.{sound_bytes}
 use Rattle.calls.proofs.Finding.{found_none, found_some}
 use Rattle.calls.proofs.Editing.{plan_refused, plan_done, entry_there, segment_range, segment_good, delete_missing, delete-refused, deleted, deleted_blocks}
 use Rattle.calls.proofs.edit.delete_in.Goals as goal
 
-pub find-place-requires : goal.find-place-requires
-find-place-requires g c = sound_bytes _ _ _ c.requires
+pub find_place-requires : goal.find_place-requires
+find_place-requires g c = sound_bytes _ _ _ c.requires
 
-pub returns-in-default : goal.returns-in-default
-returns-in-default g c =
+pub returns-in_default : goal.returns-in_default
+returns-in_default g c =
     let h = g.D.Device.held c.args.d.now in
-    let r = plan_refused h.stack _ _ h.whole (delete_missing c.args.dir.now c.args.name (found_none _ _ c.in-default.ensures.file)) in
+    let r = plan_refused h.stack _ _ h.whole (delete_missing c.args.dir.now c.args.name (found_none _ _ c.in_default.ensures.file)) in
     record { answer = r.0; after = r.1; fixed = refl }
 
 pub returns-then-file : goal.returns-then-file
@@ -20,11 +20,11 @@ returns-then-file g c =
     let r = plan_refused h.stack _ _ h.whole (delete-refused _ _ _ c.requires c.args.name c.in-Some.file w c.if-file.true) in
     record { answer = r.0; after = r.1; fixed = refl }
 
-pub empty-at-requires : goal.empty-at-requires
-empty-at-requires g c = entry_there _ _ _ c.requires c.args.name c.in-Some.file (found_some _ _ c.in-Some.file c.in-Some.ensures.file)
+pub empty_at-requires : goal.empty_at-requires
+empty_at-requires g c = entry_there _ _ _ c.requires c.args.name c.in-Some.file (found_some _ _ c.in-Some.file c.in-Some.ensures.file)
 
-pub store-from-requires : goal.store-from-requires
-store-from-requires g c =
+pub store_from-requires : goal.store_from-requires
+store_from-requires g c =
     let w = found_some _ _ c.in-Some.file c.in-Some.ensures.file in
     let r = segment_range _ _ _ c.requires c.args.name c.in-Some.file w c.empty_at.new.dir c.empty_at.auto.dir in
     record { range = (r.0, (r.1, r.2)); known = segment_good _ _ _ c.requires c.args.name c.in-Some.file w }
@@ -33,7 +33,7 @@ pub returns : goal.returns
 returns g c =
     let h = g.D.Device.held c.args.d.now in
     let w = found_some _ _ c.in-Some.file c.in-Some.ensures.file in
-    let p = c.store-from.ensures in
+    let p = c.store_from.ensures in
     let r = plan_done h.stack _ _ _ _ (deleted _ _ _ c.requires c.args.name c.in-Some.file w c.if-file.false) p.after
     (deleted_blocks _ _ _ c.requires c.args.name c.in-Some.file w c.empty_at.new.dir c.empty_at.ensures) in
     record { answer = r.0; after = r.1; fixed = p.fixed }

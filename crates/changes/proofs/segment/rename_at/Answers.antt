@@ -5,6 +5,6 @@ use Rattle.changes.proofs.segment.rename_at.Goals as goal
 
 pub returns : goal.returns
 returns c =
-    put_one c.args.dir.now c.args.k c.header-at-header.result c.header-at-header.ensures _ c.entries-at-slots.ensures.entries
-    (renamed c.args.name) c.args.i c.entries-at-slots.result.count c.entries-at-slots.result.entries c.renamed.result _ c.put-segment.new.dir
-    refl c.requires.inside c.renamed.ensures (c.all-entries.ensures.entries ∙ c.replace.ensures.entries) c.put-segment.ensures
+    put_one c.args.dir.now c.args.k c.header_at-header.result c.header_at-header.ensures _ c.entries_at-slots.ensures.entries
+    (renamed c.args.name) c.args.i c.entries_at-slots.result.count c.entries_at-slots.result.entries c.renamed.result _ c.put_segment.new.dir
+    refl c.requires.inside c.renamed.ensures (c.all_entries.ensures.entries ∙ c.replace.ensures.entries) c.put_segment.ensures

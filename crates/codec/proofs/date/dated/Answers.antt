@@ -14,8 +14,8 @@ pub returns-then-word-eq0 : goal.returns-then-word-eq0
 unfolding dated_of
 returns-then-word-eq0 c = search rules
 
-pub returns-then-is-day : goal.returns-then-is-day
-returns-then-is-day c = said _ _ _ c.if-word-eq0.false c.date-in-date.ensures c.if-is-day.ensures
+pub returns-then-is_day : goal.returns-then-is_day
+returns-then-is_day c = said _ _ _ c.if-word-eq0.false c.date_in-date.ensures c.if-is_day.ensures
 
-pub returns-else-is-day : goal.returns-else-is-day
-returns-else-is-day c = said _ _ _ c.if-word-eq0.false c.date-in-date.ensures c.if-is-day.ensures
+pub returns-else-is_day : goal.returns-else-is_day
+returns-else-is_day c = said _ _ _ c.if-word-eq0.false c.date_in-date.ensures c.if-is_day.ensures

@@ -1,4 +1,4 @@
-use Rattle.std.proofs.Common.{◌≡◌, ◌+◌, ◌*◌, ◌≤◌, length}
+use Rattle.std.proofs.Common.{◌≡◌, length}
 use Rattle.directory.specs.Walks.{left, OnWay}
 use Rattle.directory.specs.Finds.{all_apart}
 use Rattle.directory.proofs.find.all_apart.Given as goal

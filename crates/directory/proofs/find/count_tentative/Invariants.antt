@@ -1,4 +1,4 @@
-use Rattle.std.proofs.Common.{◌≡◌, ◌+◌, ◌*◌, ◌≤◌, length}
+use Rattle.std.proofs.Common.{◌≡◌, ◌+◌, ◌≤◌, length}
 use Rattle.directory.specs.Walks.{left, OnWay}
 use Rattle.directory.specs.Finds.{tentatives}
 use Rattle.directory.proofs.find.count_tentative.Given as goal

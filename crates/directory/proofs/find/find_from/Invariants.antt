@@ -1,4 +1,4 @@
-use Rattle.std.proofs.Common.{◌≡◌, ◌+◌, ◌*◌, ◌≤◌, length}
+use Rattle.std.proofs.Common.{◌≡◌, length}
 use Rattle.directory.specs.Walks.{left, OnWay}
 use Rattle.directory.specs.Finds.{first_named}
 use Rattle.directory.proofs.find.find_from.Given as goal

@@ -1,28 +1,26 @@
-use Rattle.std.proofs.Common.{◌≡◌, ℕ, ◌+◌, ◌*◌, ◌<◌, ◌≤◌, true, false, List, length, sym, refl, ap, ◌∙◌, arith}
-use Rattle.directory.specs.declared.placed.Placed.{Placed}
-use Rattle.directory.specs.Walks.{left}
+use Rattle.std.proofs.Common.{length, ap, arith}
 use Rattle.directory.proofs.Finding as find
 use Rattle.directory.proofs.find.sum_blocks.Goals as goal
 
 pub loop-entry-smaller : goal.loop-entry-smaller
-loop-entry-smaller c = omega (arith, ap length c.in-Some.ensures.0)
+loop-entry-smaller c = omega (arith, ap length c.in-Some.ensures.step.0)
 
 pub loop-entry-init : goal.loop-entry-init
 loop-entry-init c = (c.requires, omega arith, omega arith)
 
-pub overflow-add-sum : goal.overflow-add-sum
-overflow-add-sum c = omega (arith, c.loop-entry.invariant.2, c.requires.bound, ap length c.in-Some.ensures.0)
+pub overflow_add-sum : goal.overflow_add-sum
+overflow_add-sum c = omega (arith, c.loop-entry.invariant.2, c.requires.bound, ap length c.in-Some.ensures.step.0)
 
 pub loop-entry-preserved : goal.loop-entry-preserved
 loop-entry-preserved c = (
-  c.in-Some.ensures.1,
-  omega (arith, c.loop-entry.invariant.1, find.blocks_on _ c.in-Some.ensures.0),
-  omega (arith, c.loop-entry.invariant.2, ap length c.in-Some.ensures.0),
+  c.in-Some.ensures.step.1,
+  omega (arith, c.loop-entry.invariant.1, find.blocks_on _ c.in-Some.ensures.step.0),
+  omega (arith, c.loop-entry.invariant.2, ap length c.in-Some.ensures.step.0),
 )
 
 pub returns : goal.returns
 returns c =
     record {
-      sum = omega (arith, c.loop-entry.invariant.1, find.blocks_none _ c.in-default.ensures);
+      sum = omega (arith, c.loop-entry.invariant.1, find.blocks_none _ c.in_default.ensures.step);
       bound = omega (arith, c.loop-entry.invariant.2);
     }

@@ -1,9 +1,9 @@
-use Rattle.std.proofs.Common.{ℕ, ◌+◌, ◌*◌, ◌≤◌, add-mul, arith}
+use Rattle.std.proofs.Common.{◌+◌, add-mul, arith}
 use Rattle.segment.proofs.Walks.{room_for}
 use Rattle.directory.proofs.rules.entries_stand.Goals as goal
 
-pub same-bytes-requires : goal.same-bytes-requires
-same-bytes-requires c = (
+pub same_bytes-requires : goal.same_bytes-requires
+same_bytes-requires c = (
   omega (
     arith,
     c.in-Some.ensures.most,

@@ -1,4 +1,4 @@
-use Rattle.std.proofs.Common.{◌≡◌, ℕ, ◌+◌, ◌*◌, List, sym, refl, ap, ◌∙◌, subst, arith}
+use Rattle.std.proofs.Common.{◌≡◌, ℕ, ◌+◌, ◌*◌, List, refl, ap, ◌∙◌}
 use Rattle.codec.specs.Words.{word_at}
 use Rattle.segment.specs.Chains.{order_of}
 use Rattle.segment.specs.Directories.{chain_of}
@@ -20,19 +20,19 @@ module _ (dir : List ℕ) (x : ℕ) (ks : List ℕ) (s : Spot) (xp : x ≡ word_
   unfolding placed_of
   all kp = rw (xp, kp, start) refl
 
-pub find-from-requires : goal.find-from-requires
-find-from-requires c =
-    on c.args.dir.now c.word-at.result c.in-order.result.now c.first-spot.result c.word-at.ensures c.first-block.result c.first-spot.ensures c.first-block.ensures
-    (order_of c.sound-chain-chain.result) c.in-order.ensures c.sound-chain-chain.ensures.way
+pub find_from-requires : goal.find_from-requires
+find_from-requires c =
+    on c.args.dir.now c.word_at.result c.in_order.result.now c.first_spot.result c.word_at.ensures c.first_block.result c.first_spot.ensures c.first_block.ensures
+    (order_of c.sound_chain-chain.result) c.in_order.ensures c.sound_chain-chain.ensures.way
 
 pub returns : goal.returns
 unfolding file_of
 returns c =
     record {
-      start = c.find-from.ensures.start;
+      start = c.find_from.ensures.start;
       file =
-          c.find-from.ensures.file
+          c.find_from.ensures.file
           ∙ ap (first_named c.args.name)
-          (all c.args.dir.now c.word-at.result c.in-order.result.now c.first-spot.result c.word-at.ensures c.first-block.result c.first-spot.ensures c.first-block.ensures
-          (c.in-order.ensures ∙ c.sound-chain-chain.ensures.order));
+          (all c.args.dir.now c.word_at.result c.in_order.result.now c.first_spot.result c.word_at.ensures c.first_block.result c.first_spot.ensures c.first_block.ensures
+          (c.in_order.ensures ∙ c.sound_chain-chain.ensures.order));
     }

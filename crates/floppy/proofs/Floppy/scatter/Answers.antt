@@ -15,8 +15,8 @@ turn-requires g c =
     record {
       long = c.loop-n.invariant.0.long;
       good = scattered_readable (g.D.Device.held c.args.self.now.below) c.args.b c.args.from.now c.requires.good c.loop-n.n
-          c.loop-n.held (g.D.Device.held c.loop-n.self.below) c.loop-n.invariant.0 c.sector-at-place.result (omega arith)
-          c.sector-at-place.ensures.place;
+          c.loop-n.held (g.D.Device.held c.loop-n.self.below) c.loop-n.invariant.0 c.sector_at-place.result (omega arith)
+          c.sector_at-place.ensures.place;
     }
 
 pub loop-n-preserved : goal.loop-n-preserved
@@ -26,8 +26,8 @@ loop-n-preserved g c =
       scattered_more s c.args.b c.args.from.now c.requires.good c.loop-n.n c.turn.new.self k
           (scattered_turned s c.args.b c.args.from.now c.requires.good c.loop-n.n c.loop-n.held (g.D.Device.held c.loop-n.self.below)
           c.loop-n.invariant.0 c.turn.new.self k c.turn.ensures.long c.turn.ensures.stack)
-          c.sector-at-place.result c.copy-sector.new.to c.told-from (omega arith) c.sector-at-place.ensures.place c.turn.ensures.block
-          c.copy-sector.ensures,
+          c.sector_at-place.result c.copy_sector.new.to c.told-from (omega arith) c.sector_at-place.ensures.place c.turn.ensures.block
+          c.copy_sector.ensures,
       c.turn.ensures.fixed ∙ c.loop-n.invariant.1,
     )
 

@@ -12,5 +12,5 @@ pub scatter-requires : goal.scatter-requires
 scatter-requires g c =
     let bs : List Block = shows (g.D.Device.held c.args.self.now.below) in
     let r : Readable (seen floppy bs) c.args.b
-    = fetched_readable (seen floppy bs) c.args.b c.in-ok-gather.field-0 c.in-ok-gather.ensures in
+    = fetched_readable (seen floppy bs) c.args.b c.in_ok-gather.field-0 c.in_ok-gather.ensures in
     record { low = (low_block bs c.args.b r).1; good = r }

@@ -1,4 +1,4 @@
-use Rattle.std.proofs.Common.{◌≡◌, ℕ, ◌+◌, ◌*◌, ◌<◌, ◌≤◌, List, length, sym, refl, ap, ◌∙◌, subst, arith}
+use Rattle.std.proofs.Common.{ℕ, ◌≤◌, List, length, sym, ◌∙◌, arith}
 use Rattle.std.proofs.lemmas.Result.{err_from_is_err_and}
 use Rattle.std.proofs.lemmas.Bool.{cond-true, cond-false, eq-eqb, ne_eqb}
 use Rattle.device.specs.Blocks.{Block}
@@ -6,44 +6,44 @@ use Rattle.device.specs.Held.{shows}
 use Rattle.level.proofs.Checking.{check_refused, check_rule, part_long, part_total, part_sound}
 use Rattle.level.proofs.check.check.Goals as goal
 
-pub returns-in-err-total : goal.returns-in-err-total
-returns-in-err-total g c =
+pub returns-in_err-total : goal.returns-in_err-total
+returns-in_err-total g c =
     let n : ℕ = length c.args.work.now in
     let bs : List Block = shows (g.D.Device.held c.args.d.now) in
-    let p = err_from_is_err_and c.from-residual.result c.from-residual.ensures.1 in
-    rw (p.1, p.2) (record { answer = check_refused n bs c.args.output _ c.in-err-total.ensures.answer; bytes = tt; sound = tt; good = tt; range = tt })
+    let p = err_from_is_err_and c.from_residual.result c.from_residual.ensures.1 in
+    rw (p.1, p.2) (record { answer = check_refused n bs c.args.output _ c.in_err-total.ensures.answer; bytes = tt; sound = tt; good = tt; range = tt })
 
-pub broken-rule-requires : goal.broken-rule-requires
-broken-rule-requires g c =
-    let h = c.in-ok-total.ensures in
+pub broken_rule-requires : goal.broken_rule-requires
+broken_rule-requires g c =
+    let h = c.in_ok-total.ensures in
     let long : 32768 ≤ length c.load.new.work = omega arith in
-    let n = part_long _ c.load.new.work c.in-ok-total.total c.directory_of.ensures h.range.0 h.range.1 long h.range.3 in
-    let t = part_total _ c.load.new.work c.in-ok-total.total c.directory_of.ensures h.range.0 h.range.1 long h.range.3 in
+    let n = part_long _ c.load.new.work c.in_ok-total.total c.directory_of.ensures h.range.0 h.range.1 long h.range.3 in
+    let t = part_total _ c.load.new.work c.in_ok-total.total c.directory_of.ensures h.range.0 h.range.1 long h.range.3 in
     (omega (arith, n), (omega (arith, t), omega (arith, n, t)))
 
 pub returns-in-0 : goal.returns-in-0
 returns-in-0 g c =
     let n : ℕ = length c.args.work.now in
     let bs : List Block = shows (g.D.Device.held c.args.d.now) in
-    let h = c.in-ok-total.ensures in
+    let h = c.in_ok-total.ensures in
     let long : 32768 ≤ length c.load.new.work = omega arith in
-    let s : ℕ = c.in-ok-total.total in
+    let s : ℕ = c.in_ok-total.total in
     let d = c.directory_of.ensures ∙ h.bytes in
     let r = check_rule n bs c.args.output s c.level_size.result c.broken_rule.result _ h.answer d c.level_size.ensures c.broken_rule.ensures in
     record {
       answer = sym (cond-true _ _ _ (eq-eqb c.broken_rule.result 0 c.in-0.is)) ∙ r;
       bytes = h.bytes;
-      sound = part_sound _ c.load.new.work c.in-ok-total.total c.directory_of.ensures h.range.0 h.range.1 long h.range.3 c.level_size.result c.args.output (sym c.broken_rule.ensures ∙ c.in-0.is);
+      sound = part_sound _ c.load.new.work c.in_ok-total.total c.directory_of.ensures h.range.0 h.range.1 long h.range.3 c.level_size.result c.args.output (sym c.broken_rule.ensures ∙ c.in-0.is);
       good = h.good;
       range = (h.range.0, h.range.1, h.range.2);
     }
 
-pub returns-in-default : goal.returns-in-default
-returns-in-default g c =
+pub returns-in_default : goal.returns-in_default
+returns-in_default g c =
     let n : ℕ = length c.args.work.now in
     let bs : List Block = shows (g.D.Device.held c.args.d.now) in
-    let h = c.in-ok-total.ensures in
-    let s : ℕ = c.in-ok-total.total in
+    let h = c.in_ok-total.ensures in
+    let s : ℕ = c.in_ok-total.total in
     let d = c.directory_of.ensures ∙ h.bytes in
     let r = check_rule n bs c.args.output s c.level_size.result c.broken_rule.result _ h.answer d c.level_size.ensures c.broken_rule.ensures in
     record {

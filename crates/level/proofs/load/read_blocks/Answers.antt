@@ -1,4 +1,4 @@
-use Rattle.std.proofs.Common.{◌≡◌, ℕ, suc, ◌+◌, ◌-◌, ◌*◌, ◌<◌, ◌≤◌, List, sym, refl, ap, ◌∙◌, subst, arith}
+use Rattle.std.proofs.Common.{◌≡◌, ℕ, ◌*◌, List, refl, ◌∙◌, subst, arith}
 use Rattle.std.proofs.lemmas.Result.{err_from_is_err_and}
 use Rattle.device.specs.Blocks.{Block}
 use Rattle.device.specs.Held.{shows}
@@ -14,7 +14,7 @@ pub loop-i-preserved : goal.loop-i-preserved
 loop-i-preserved g c =
     let bs : List Block = shows (g.D.Device.held c.args.d.now) in
     let i : ℕ = c.loop-i.i in
-    let e = c.in-ok-read-to.ensures in
+    let e = c.in_ok-read_to.ensures in
     let p = brought_bytes _ _ _ _ e.answer e.workspace in (
       readable_more bs 6 i c.args.to (omega arith) e.answer ∙ c.loop-i.invariant.0,
       holds_more bs i c.loop-i.work p.0 _ (whole_shown (g.D.Device.held c.args.d.now)) c.loop-i.invariant.1 p.1 p.2 (omega arith),
@@ -29,11 +29,11 @@ returns g c =
       bytes = subst (λ (z : ℕ). Holds bs (512 * z) c.loop-i.work) e c.loop-i.invariant.1;
     }
 
-pub returns-in-err-read-to : goal.returns-in-err-read-to
-returns-in-err-read-to g c =
+pub returns-in_err-read_to : goal.returns-in_err-read_to
+returns-in_err-read_to g c =
     let bs : List Block = shows (g.D.Device.held c.args.d.now) in
-    let p = err_from_is_err_and c.from-residual.result c.from-residual.ensures.1 in
+    let p = err_from_is_err_and c.from_residual.result c.from_residual.ensures.1 in
     rw (p.1, p.2) record {
-      answer = readable_fault bs 6 c.loop-i.i c.args.to _ (omega arith) c.in-err-read-to.ensures.answer ∙ c.loop-i.invariant.0;
+      answer = readable_fault bs 6 c.loop-i.i c.args.to _ (omega arith) c.in_err-read_to.ensures.answer ∙ c.loop-i.invariant.0;
       bytes = tt;
     }

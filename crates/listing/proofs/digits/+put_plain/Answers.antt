@@ -15,21 +15,21 @@ returns-then-n-lt10 t c =
       behind = omega (arith, length-plain-one c.args.n c.if-n-lt10.true);
     }
 
-pub put-plain-last-requires : goal.put-plain-last-requires
-put-plain-last-requires t c = omega (arith, c.requires, length-plain_more c.args.n c.if-n-lt10.false (omega arith))
+pub put_plain-last-requires : goal.put_plain-last-requires
+put_plain-last-requires t c = omega (arith, c.requires, length-plain_more c.args.n c.if-n-lt10.false (omega arith))
 
 pub put-requires-2 : goal.put-requires-2
-put-requires-2 t c = omega (arith, c.requires, c.put-plain-last.ensures.behind, length-plain_more c.args.n c.if-n-lt10.false (omega arith))
+put-requires-2 t c = omega (arith, c.requires, c.put_plain-last.ensures.behind, length-plain_more c.args.n c.if-n-lt10.false (omega arith))
 
-pub overflow-add-result-2 : goal.overflow-add-result-2
-overflow-add-result-2 t c = omega (arith, c.requires, c.put-plain-last.ensures.behind, length-plain_more c.args.n c.if-n-lt10.false (omega arith))
+pub overflow_add-result-2 : goal.overflow_add-result-2
+overflow_add-result-2 t c = omega (arith, c.requires, c.put_plain-last.ensures.behind, length-plain_more c.args.n c.if-n-lt10.false (omega arith))
 
 pub returns : goal.returns
 returns t c =
     record {
       after =
-          written-two c.args.out.now c.args.at (plain (c.args.n / 10)) _ _ c.put-plain-last.result c.put-plain-last.ensures.after c.put-2.ensures refl
-          (sym c.put-plain-last.ensures.behind) (omega (arith, c.requires))
+          written-two c.args.out.now c.args.at (plain (c.args.n / 10)) _ _ c.put_plain-last.result c.put_plain-last.ensures.after c.put-2.ensures refl
+          (sym c.put_plain-last.ensures.behind) (omega (arith, c.requires))
           ∙ ap (written c.args.out.now c.args.at) (sym (plain_more c.args.n c.if-n-lt10.false (omega arith)));
-      behind = omega (arith, c.put-plain-last.ensures.behind, length-plain_more c.args.n c.if-n-lt10.false (omega arith));
+      behind = omega (arith, c.put_plain-last.ensures.behind, length-plain_more c.args.n c.if-n-lt10.false (omega arith));
     }

@@ -1,4 +1,4 @@
 use Rattle.listing.proofs.digits.+put_plain.Given as goal
 
-abbrev pub decreases-put-plain : goal.decreases-put-plain
-decreases-put-plain l = l.n
+abbrev pub decreases-put_plain : goal.decreases-put_plain
+decreases-put_plain l = l.n

@@ -3,9 +3,9 @@ use Rattle.codec.specs.declared.date.Dating.{Dating}
 use Rattle.listing.specs.Listings.{dating_text, date_text}
 use Rattle.listing.proofs.line.date_text.Goals as goal
 
-pub returns-in-default : goal.returns-in-default
+pub returns-in_default : goal.returns-in_default
 unfolding date_text
-returns-in-default c = ap dating_text c.in-default.ensures
+returns-in_default c = ap dating_text c.in_default.ensures
 
 pub returns-in-Undated : goal.returns-in-Undated
 unfolding date_text

@@ -7,9 +7,9 @@ pub returns : goal.returns
 unfolding file_line
 returns c =
     let name = c.name_text.ensures in
-    let long = c.right-in-five.ensures in
+    let long = c.right_in_five.ensures in
     let marked = c.mark.ensures in
     let date = c.date_text.ensures in
-    line_from c.name_text.result c.right-in-five.result c.mark.result c.date_text.result (omega arith) (omega arith) (omega arith)
+    line_from c.name_text.result c.right_in_five.result c.mark.result c.date_text.result (omega arith) (omega arith) (omega arith)
     c.put.ensures c.put-2.ensures c.put-3.ensures c.put-4.ensures c.put-5.ensures
     ∙ (λ t. line_of (name t) (long t) (marked t) (date t))

@@ -19,4 +19,4 @@ pub returns : goal.returns
 returns g c =
     rw
     (run_plays (state_of g.D.Device.held c.args.pack.now) c.args.run.now (length c.args.work.now) c.args.report.now (omega arith) (omega arith))
-    c.run-fields.ensures
+    c.run_fields.ensures

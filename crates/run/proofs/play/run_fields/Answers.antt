@@ -1,9 +1,8 @@
 use Rattle.std.proofs.Common.{◌≡◌, length, sym, refl, ap, ◌∙◌, arith, rules, true-eqb, false-eqb}
 use Rattle.std.proofs.lemmas.Bool.{le-leb, lt-leb}
-use Rattle.files.specs.States.{state_of}
 use Rattle.runfile.specs.Pieces.{next_piece, whole}
 use Rattle.run.specs.Play.{Played}
-use Rattle.run.proofs.Steps.{Onward, at_end, at_rump, at_full, one_more, shorter}
+use Rattle.run.proofs.Steps.{at_end, at_rump, at_full, one_more, shorter}
 use Rattle.run.proofs.play.run_fields.Goals as goal
 
 pub loop-rest-init : goal.loop-rest-init
@@ -21,9 +20,9 @@ returns-then-report-lines-lt20 g c =
       fits = c.loop-rest.invariant.0;
     }
 
-pub returns-in-default·2 : goal.returns-in-default·2
-returns-in-default·2 g c =
-    let q = at_rump c.loop-rest.invariant.1 (sym c.in-default.ensures) (omega (arith, false-eqb _ 0 c.loop-rest-test.ensures)) (le-leb _ _ (omega arith)) in
+pub returns-in_default-2 : goal.returns-in_default-2
+returns-in_default-2 g c =
+    let q = at_rump c.loop-rest.invariant.1 (sym c.in_default.in-Err-own.ensures) (omega (arith, false-eqb _ 0 c.loop-rest-test.ensures)) (le-leb _ _ (omega arith)) in
     record {
       lines = ap (λ (x : Played). x.lines) q;
       end = ap (λ (x : Played). x.end) q;
@@ -44,8 +43,8 @@ loop-rest-preserved g c =
     let part = c.in-Ok-Some.part in
     let piece : next_piece c.loop-rest.rest.now ≡ whole part.tag part.body.now part.rest.now = search rules in (
       omega arith,
-      one_more c.loop-rest.invariant.1 _ _ _ _ _ piece (le-leb _ _ (omega arith)) c.report-field.ensures.state c.report-field.ensures.report,
-      c.report-field.ensures.fixed ∙ c.loop-rest.invariant.2,
+      one_more c.loop-rest.invariant.1 _ _ _ _ _ piece (le-leb _ _ (omega arith)) c.report_field.ensures.state c.report_field.ensures.report,
+      c.report_field.ensures.fixed ∙ c.loop-rest.invariant.2,
     )
 
 pub returns : goal.returns

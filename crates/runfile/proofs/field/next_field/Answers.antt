@@ -1,4 +1,4 @@
-use Rattle.std.proofs.Common.{length, get_or, drop, ap, arith}
+use Rattle.std.proofs.Common.{get_or, drop, arith}
 use Rattle.std.proofs.lemmas.List.{take_rest}
 use Rattle.std.proofs.lemmas.Bool.{ltb-false, ltb-true}
 use Rattle.runfile.proofs.Pieces.{piece_at, sized_whole}
@@ -10,6 +10,6 @@ returns-else-size-rest c =
     let rest = take_rest run 3 in
     let piece = piece_at run _ _ (omega (arith, ltb-false, ltb-true)) c.from.ensures c.from-in-len3-up.ensures in
     let fits = sized_whole (get_or run 0 0) _ (drop 3 run) (rw rest at c.if-size-rest.false) in
-    let front = c.split-at.ensures.front in
-    let back = c.split-at.ensures.back in
+    let front = c.split_at.ensures.front in
+    let back = c.split_at.ensures.back in
     cc

@@ -20,7 +20,7 @@ loop-i-preserved c =
     let next = next_of c.args.dir.now in
     let ks = c.loop-i.order in (
       simp length-set c.loop-i.invariant.0,
-      subst (Met h next (set ks i k) (i + 1)) (sym c.next-of-k.ensures)
+      subst (Met h next (set ks i k) (i + 1)) (sym c.next_of-k.ensures)
           (met_more h next ks i k c.loop-i.invariant.1 (omega arith) (omega arith) (λ z. omega arith) (omega arith)),
     )
 

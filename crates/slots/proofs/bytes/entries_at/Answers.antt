@@ -4,11 +4,11 @@ use Rattle.volume.specs.declared.entry.Entry.{Entry}
 use Rattle.slots.proofs.Reading.{most_slots, entry_here, read_more, read_end, read_full}
 use Rattle.slots.proofs.bytes.entries_at.Goals as goal
 
-pub returns-in-default : goal.returns-in-default
-returns-in-default c =
+pub returns-in_default : goal.returns-in_default
+returns-in_default c =
     let none =
-    entry_here c.args.extra c.args.dir.now c.args.k c.loop-i.i c.entry_start.result c.segment-at-segment.result.now
-    c.in-default.ensures c.segment-at-segment.ensures.bytes c.entry_start.ensures.start in
+    entry_here c.args.extra c.args.dir.now c.args.k c.loop-i.i c.entry_start.result c.segment_at-segment.result.now
+    c.in_default.ensures c.segment_at-segment.ensures.bytes c.entry_start.ensures.start in
     record {
       entries =
           read_end c.args.extra c.args.dir.now c.args.k c.requires.0 c.loop-i.i c.loop-i.invariant.1 c.loop-i.entries none c.loop-i.invariant.2;
@@ -18,8 +18,8 @@ returns-in-default c =
 pub loop-i-preserved : goal.loop-i-preserved
 loop-i-preserved c =
     let some =
-    entry_here c.args.extra c.args.dir.now c.args.k c.loop-i.i c.entry_start.result c.segment-at-segment.result.now
-    c.in-Some.ensures c.segment-at-segment.ensures.bytes c.entry_start.ensures.start in
+    entry_here c.args.extra c.args.dir.now c.args.k c.loop-i.i c.entry_start.result c.segment_at-segment.result.now
+    c.in-Some.ensures c.segment_at-segment.ensures.bytes c.entry_start.ensures.start in
     let more =
     read_more c.args.extra c.args.dir.now c.args.k c.requires.0 c.loop-i.i c.loop-i.invariant.1 c.in-Some.e c.loop-i.entries some
     (omega (arith, most_slots c.args.extra)) c.loop-i.invariant.2 in (

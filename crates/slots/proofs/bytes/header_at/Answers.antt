@@ -6,11 +6,11 @@ use Rattle.slots.proofs.bytes.header_at.Goals as goal
 pub returns : goal.returns
 unfolding next_of
 returns c =
-    let start = c.word-at-5.ensures ∙ ap (λ bs. word_at bs 8) c.segment_at.ensures.bytes in
+    let start = c.word_at-5.ensures ∙ ap (λ bs. word_at bs 8) c.segment_at.ensures.bytes in
     λ j. record {
-      total = c.word-at.ensures j;
-      next = c.word-at-2.ensures j;
-      highest = c.word-at-3.ensures j;
-      extra = c.word-at-4.ensures j;
+      total = c.word_at.ensures j;
+      next = c.word_at-2.ensures j;
+      highest = c.word_at-3.ensures j;
+      extra = c.word_at-4.ensures j;
       start = start j;
     }

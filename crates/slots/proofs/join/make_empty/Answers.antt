@@ -14,10 +14,10 @@ returns c =
     let z : take (n - 0) xs ≡ take n xs = ap (λ k. take k xs) (sub-zero n) in
     record {
       entries =
-          c.close-up.ensures
-          ∙ emptied_is xs n i c.run-start-from.result c.run-end-to.result c.empty-of.result (omega arith) (omega arith) (omega arith)
-          (c.run-start-from.ensures.0 ∙ ap (λ es. run_start es i) z)
-          (c.run-end-to.ensures.0 ∙ ap (λ es. run_end es i) z)
-          (c.empty-of.ensures ∙ ap empty_of (c.run-blocks-blocks.ensures ∙ ap (λ es. blocks_of (between c.run-start-from.result c.run-end-to.result es)) z));
+          c.close_up.ensures
+          ∙ emptied_is xs n i c.run_start-from.result c.run_end-to.result c.empty_of.result (omega arith) (omega arith) (omega arith)
+          (c.run_start-from.ensures.0 ∙ ap (λ es. run_start es i) z)
+          (c.run_end-to.ensures.0 ∙ ap (λ es. run_end es i) z)
+          (c.empty_of.ensures ∙ ap empty_of (c.run_blocks-blocks.ensures ∙ ap (λ es. blocks_of (between c.run_start-from.result c.run_end-to.result es)) z));
       count = (omega arith, omega arith);
     }

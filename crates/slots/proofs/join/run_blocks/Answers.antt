@@ -2,5 +2,5 @@ use Rattle.std.proofs.Common.{arith}
 use Rattle.slots.proofs.Blocks.{blocks_between}
 use Rattle.slots.proofs.join.run_blocks.Goals as goal
 
-pub blocks-of-requires : goal.blocks-of-requires
-blocks-of-requires c = omega (arith, blocks_between c.args.entries.now c.args.from c.args.to c.requires.0)
+pub blocks_of-requires : goal.blocks_of-requires
+blocks_of-requires c = omega (arith, blocks_between c.args.entries.now c.args.from c.args.to c.requires.0)

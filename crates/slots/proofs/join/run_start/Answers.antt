@@ -8,6 +8,6 @@ use Rattle.slots.proofs.join.run_start.Goals as goal
 pub returns : goal.returns
 unfolding run_start
 returns c = (
-  ap (λ r. c.args.i - r) (c.empties-before.ensures.0 ∙ ap (λ n. suffix_len is_empty (take n c.args.entries.now)) (sub-zero c.args.i)),
+  ap (λ r. c.args.i - r) (c.empties_before.ensures.0 ∙ ap (λ n. suffix_len is_empty (take n c.args.entries.now)) (sub-zero c.args.i)),
   omega arith,
 )

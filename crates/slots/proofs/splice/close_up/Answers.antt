@@ -1,4 +1,4 @@
-use Rattle.std.proofs.Common.{◌≡◌, ◌+◌, ◌-◌, ◌++◌, take, drop, ap, ◌∙◌, subst, arith}
+use Rattle.std.proofs.Common.{◌≡◌, ◌-◌, ◌++◌, take, drop, ap, ◌∙◌, subst, arith}
 use Rattle.volume.proofs.Encoding.{no_entry}
 use Rattle.slots.proofs.Shifts.{close_more, close_all}
 use Rattle.slots.proofs.splice.close_up.Goals as goal

@@ -6,8 +6,8 @@ pub returns-then-blocks-eq0 : goal.returns-then-blocks-eq0
 returns-then-blocks-eq0 c =
     record {
       entries =
-          two_by_one c.args.s.now.entries c.args.s.now.count c.args.i (omega arith) (omega arith) c.close-up.new.entries c.args.first
-          c.args.blocks c.if-blocks-eq0.true c.close-up.ensures;
+          two_by_one c.args.s.now.entries c.args.s.now.count c.args.i (omega arith) (omega arith) c.close_up.new.entries c.args.first
+          c.args.blocks c.if-blocks-eq0.true c.close_up.ensures;
       count = (omega arith, omega arith);
     }
 
@@ -15,7 +15,7 @@ pub returns-else-blocks-eq0 : goal.returns-else-blocks-eq0
 returns-else-blocks-eq0 c =
     record {
       entries =
-          two_by_two c.args.s.now.entries c.args.s.now.count c.args.i (omega arith) (omega arith) c.args.first c.empty-of.result
-          c.args.blocks c.requires.0 c.if-blocks-eq0.false c.empty-of.ensures;
+          two_by_two c.args.s.now.entries c.args.s.now.count c.args.i (omega arith) (omega arith) c.args.first c.empty_of.result
+          c.args.blocks c.requires.0 c.if-blocks-eq0.false c.empty_of.ensures;
       count = (omega arith, omega arith);
     }

@@ -11,7 +11,7 @@ returns c =
     let e = c.args.e.now in
     record {
       after = written-two c.args.out.now c.args.at (head_bytes e) (take c.args.extra e.extra) _ _
-          (c.put.ensures ∙ ap (written c.args.out.now c.args.at) c.head-bytes.ensures) c.put-2.ensures
+          (c.put.ensures ∙ ap (written c.args.out.now c.args.at) c.head_bytes.ensures) c.put-2.ensures
           (ap (λ n. take n e.extra) (sub-zero c.args.extra)) refl (omega arith);
       long = simp length-take (omega arith);
     }

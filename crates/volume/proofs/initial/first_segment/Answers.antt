@@ -7,5 +7,5 @@ use Rattle.volume.proofs.initial.first_segment.Goals as goal
 pub returns : goal.returns
 unfolding first_segment
 returns c =
-    c.encode-segment.ensures
-    ∙ ap (λ (e : Entry). segment_bytes (record { total = c.args.total; next = 0; highest = 1; extra = 0; start = 6 + 2 * c.args.total }) (e ∷ [])) c.empty-of.ensures
+    c.encode_segment.ensures
+    ∙ ap (λ (e : Entry). segment_bytes (record { total = c.args.total; next = 0; highest = 1; extra = 0; start = 6 + 2 * c.args.total }) (e ∷ [])) c.empty_of.ensures

@@ -6,54 +6,54 @@ use Rattle.volume.proofs.Stretches.{read_ok, read_err, fetch_is_good, readable-g
 use Rattle.volume.proofs.Initials.{fit_range, init_range, init_is, init_refused, init_done}
 use Rattle.volume.proofs.initial.initialize.Goals as goal
 
-pub returns-then-not-segments-fit : goal.returns-then-not-segments-fit
-returns-then-not-segments-fit g c =
+pub returns-then-not-segments_fit : goal.returns-then-not-segments_fit
+returns-then-not-segments_fit g c =
     let h = g.D.Device.held c.args.d.now in
     let t : ℕ = c.args.segments in
-    let a = init_range t c.level-size-blocks.result (shows h) c.level-size-blocks.ensures c.if-not-segments-fit.ensures in
+    let a = init_range t c.level_size-blocks.result (shows h) c.level_size-blocks.ensures c.if-not-segments_fit.ensures in
     record { answer = a; after = init_refused t h.stack _ h.whole a; fixed = cc }
 
-pub returns-in-err-read : goal.returns-in-err-read
-returns-in-err-read g c =
+pub returns-in_err-read : goal.returns-in_err-read
+returns-in_err-read g c =
     let h = g.D.Device.held c.args.d.now in
     let t : ℕ = c.args.segments in
-    let e = c.in-err-read.field-0.0 in
-    let p = err_from_is_err_and c.from-residual.result c.from-residual.ensures.1 in
-    let f : fetch (shows h) 1 ≡ Err e = read_err (fetch (shows h) 1) e c.in-err-read.ensures.answer in
-    let a = init_is t c.level-size-blocks.result (shows h) c.level-size-blocks.ensures (Err e) _ c.if-not-segments-fit.ensures f refl in
+    let e = c.in_err-read.field-0.0 in
+    let p = err_from_is_err_and c.from_residual.result c.from_residual.ensures.1 in
+    let f : fetch (shows h) 1 ≡ Err e = read_err (fetch (shows h) 1) e c.in_err-read.ensures.answer in
+    let a = init_is t c.level_size-blocks.result (shows h) c.level_size-blocks.ensures (Err e) _ c.if-not-segments_fit.ensures f refl in
     rw (p.1, p.2) (record { answer = a; after = init_refused t h.stack _ h.whole a; fixed = cc })
 
-pub returns-in-err-sweep : goal.returns-in-err-sweep
-returns-in-err-sweep g c =
+pub returns-in_err-sweep : goal.returns-in_err-sweep
+returns-in_err-sweep g c =
     let h = g.D.Device.held c.args.d.now in
     let t : ℕ = c.args.segments in
     let old = c.read.new.into in
-    let p = err_from_is_err_and c.from-residual-in-err-sweep.result c.from-residual-in-err-sweep.ensures.1 in
-    let r = c.in-ok-read.ensures in
+    let p = err_from_is_err_and c.from_residual-in_err-sweep.result c.from_residual-in_err-sweep.ensures.1 in
+    let r = c.in_ok-read.ensures in
     let f : fetch (shows h) 1 ≡ Ok old = read_ok (fetch (shows h) 1) (replicate 512 0) old r.answer r.buffer in
-    let a = init_is t c.level-size-blocks.result (shows h) c.level-size-blocks.ensures (Ok old) (Err c.in-err-sweep.field-0.0) c.if-not-segments-fit.ensures f c.in-err-sweep.ensures in
+    let a = init_is t c.level_size-blocks.result (shows h) c.level_size-blocks.ensures (Ok old) (Err c.in_err-sweep.field-0.0) c.if-not-segments_fit.ensures f c.in_err-sweep.ensures in
     rw (p.1, p.2) (record { answer = a; after = init_refused t h.stack _ h.whole a; fixed = cc })
 
-pub lay-out-requires : goal.lay-out-requires
-lay-out-requires g c =
+pub lay_out-requires : goal.lay_out-requires
+lay_out-requires g c =
     let h = g.D.Device.held c.args.d.now in
     let old = c.read.new.into in
-    let r = c.in-ok-read.ensures in
+    let r = c.in_ok-read.ensures in
     record {
-      range = fit_range _ _ c.if-not-segments-fit.ensures;
+      range = fit_range _ _ c.if-not-segments_fit.ensures;
       block = fetch_is_good (shows h) 1 old (read_ok (fetch (shows h) 1) (replicate 512 0) old r.answer r.buffer);
-      directory = readable-good (shows h) 6 (2 * c.args.segments) c.in-ok-sweep.ensures;
+      directory = readable-good (shows h) 6 (2 * c.args.segments) c.in_ok-sweep.ensures;
     }
 
 pub returns : goal.returns
 returns g c =
     let h = g.D.Device.held c.args.d.now in
     let t : ℕ = c.args.segments in
-    let v = c.level-size-blocks.result in
+    let v = c.level_size-blocks.result in
     let old = c.read.new.into in
-    let k = (g.D.Device.held c.lay-out.new.d).stack in
-    let r = c.in-ok-read.ensures in
+    let k = (g.D.Device.held c.lay_out.new.d).stack in
+    let r = c.in_ok-read.ensures in
     let f : fetch (shows h) 1 ≡ Ok old = read_ok (fetch (shows h) 1) (replicate 512 0) old r.answer r.buffer in
-    let a = init_is t v (shows h) c.level-size-blocks.ensures (Ok old) (Ok tt) c.if-not-segments-fit.ensures f c.in-ok-sweep.ensures in
-    let e = c.in-ok-lay-out.ensures in
-    record { answer = a; after = init_done t v h.stack k old c.level-size-blocks.ensures f a e.after; fixed = e.fixed }
+    let a = init_is t v (shows h) c.level_size-blocks.ensures (Ok old) (Ok tt) c.if-not-segments_fit.ensures f c.in_ok-sweep.ensures in
+    let e = c.in_ok-lay_out.ensures in
+    record { answer = a; after = init_done t v h.stack k old c.level_size-blocks.ensures f a e.after; fixed = e.fixed }

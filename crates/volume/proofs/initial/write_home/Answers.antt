@@ -9,11 +9,11 @@ pub returns : goal.returns
 returns g c =
     let h = g.D.Device.held c.args.d.now in
     let k = (g.D.Device.held c.write.new.self).stack in
-    let new : List ℕ = c.home-block.result in
-    let w = good-written h.stack 1 new c.write.result k h.whole c.requires (ap length c.home-block.ensures ∙ home-long c.args.old.now c.told-old)
+    let new : List ℕ = c.home_block.result in
+    let w = good-written h.stack 1 new c.write.result k h.whole c.requires (ap length c.home_block.ensures ∙ home-long c.args.old.now c.told-old)
     c.write.ensures.answer c.write.ensures.stack in
     record {
       answer = w.0;
-      after = subst (λ (z : List ℕ). Became h.stack (set (shown h.stack) 1 (good z)) k) c.home-block.ensures w.1;
+      after = subst (λ (z : List ℕ). Became h.stack (set (shown h.stack) 1 (good z)) k) c.home_block.ensures w.1;
       fixed = c.write.ensures.fixed;
     }

@@ -18,8 +18,8 @@ loop-e-init c =
           ∙ ap (written (replicate 1024 0) 0) (c.header_bytes.ensures ∙ sym (append-nil (header_bytes c.args.h.now))),
     )
 
-pub encode-entry-requires : goal.encode-entry-requires
-encode-entry-requires c =
+pub encode_entry-requires : goal.encode_entry-requires
+encode_entry-requires c =
     let n : 0 < length c.args.entries.now - c.loop-e.e-index = omega arith in
     (omega (arith, room _ _ _ _ n c.loop-e.invariant.0), c.requires.1.0)
 
@@ -34,8 +34,8 @@ loop-e-preserved c =
     let done = h ++ flat_map (entry_bytes x) (take i es) in
     let more = entries_more x h es i no_entry c.loop-e-test.true in (
       rw m at (room _ _ _ _ n c.loop-e.invariant.0),
-      rw (← more) (omega (arith, length-append done (entry_bytes x (get_or es i no_entry)), c.encode-entry.ensures.long, c.loop-e.invariant.1)),
-      written-two (replicate 1024 0) 0 done _ _ _ c.loop-e.invariant.2 c.encode-entry.ensures.after refl (omega arith) (omega arith)
+      rw (← more) (omega (arith, length-append done (entry_bytes x (get_or es i no_entry)), c.encode_entry.ensures.long, c.loop-e.invariant.1)),
+      written-two (replicate 1024 0) 0 done _ _ _ c.loop-e.invariant.2 c.encode_entry.ensures.after refl (omega arith) (omega arith)
           ∙ ap (written (replicate 1024 0) 0) more,
     )
 

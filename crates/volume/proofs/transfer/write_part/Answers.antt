@@ -11,8 +11,8 @@ returns g c =
     let at : ℕ = c.args.at in
     let bytes : List ℕ = c.args.bytes.now in
     let n : at + 512 - at ≡ 512 = omega arith in
-    let e : c.copy-from-slice.new.self ≡ take 512 (drop at bytes) = c.copy-from-slice.ensures.after ∙ ap (λ m. take m (drop at bytes)) n in
-    let w = good-written h.stack c.args.b c.copy-from-slice.new.self c.write.result k h.whole c.requires.known (omega arith)
+    let e : c.copy_from_slice.new.self ≡ take 512 (drop at bytes) = c.copy_from_slice.ensures.after ∙ ap (λ m. take m (drop at bytes)) n in
+    let w = good-written h.stack c.args.b c.copy_from_slice.new.self c.write.result k h.whole c.requires.known (omega arith)
     c.write.ensures.answer c.write.ensures.stack in
     record {
       answer = w.0;

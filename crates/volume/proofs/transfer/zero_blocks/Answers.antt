@@ -21,7 +21,7 @@ loop-i-preserved g c =
     let b : ℕ = c.args.b in
     let i : ℕ = c.loop-i.i in
     let n : ℕ = c.args.n in
-    let e = c.in-ok-write.ensures in
+    let e = c.in_ok-write.ensures in
     let a = c.loop-i.invariant.0 in
     let m = set (shown k) (b + i) (good (replicate 512 0)) in
     let w = good-written k (b + i) (replicate 512 0) _ j h.whole (λ y p q. good_still s (shown k) k a b (b + n) c.requires.known y (omega arith) (omega arith)) refl e.answer e.stack in (
@@ -30,13 +30,13 @@ loop-i-preserved g c =
       cc (e.fixed, c.loop-i.invariant.2),
     )
 
-pub returns-in-err-write : goal.returns-in-err-write
-returns-in-err-write g c =
+pub returns-in_err-write : goal.returns-in_err-write
+returns-in_err-write g c =
     let s = (g.D.Device.held c.args.d.now).stack in
     let k = (g.D.Device.held c.loop-i.d).stack in
     let b : ℕ = c.args.b in
-    absurd (good_accepted (shown k) (b + c.loop-i.i) c.in-err-write.field-0.0
-    (λ y p q. good_still s (shown k) k c.loop-i.invariant.0 b (b + c.args.n) c.requires.known y (omega arith) (omega arith)) c.in-err-write.ensures.answer)
+    absurd (good_accepted (shown k) (b + c.loop-i.i) c.in_err-write.field-0.0
+    (λ y p q. good_still s (shown k) k c.loop-i.invariant.0 b (b + c.args.n) c.requires.known y (omega arith) (omega arith)) c.in_err-write.ensures.answer)
 
 pub returns : goal.returns
 returns g c =

@@ -8,14 +8,14 @@ returns-then-b-blocks c =
     let m : List ℕ = c.args.self.now.memory.now in
     rw (laid_past (image_blocks m) (listed c.args.self.now.bad.now) m c.args.b (omega arith)) record { answer = refl; buffer = refl }
 
-pub returns-then-is-listed : goal.returns-then-is-listed
-returns-then-is-listed c =
+pub returns-then-is_listed : goal.returns-then-is_listed
+returns-then-is_listed c =
     let m : List ℕ = c.args.self.now.memory.now in
-    rw (laid_bad (image_blocks m) (listed c.args.self.now.bad.now) m c.args.b (omega arith) (sym c.if-is-listed.ensures))
+    rw (laid_bad (image_blocks m) (listed c.args.self.now.bad.now) m c.args.b (omega arith) (sym c.if-is_listed.ensures))
     record { answer = refl; buffer = refl }
 
 pub returns : goal.returns
 returns c =
     let m : List ℕ = c.args.self.now.memory.now in
-    rw (laid-good (image_blocks m) (listed c.args.self.now.bad.now) m c.args.b (omega arith) (sym c.if-is-listed.ensures))
+    rw (laid-good (image_blocks m) (listed c.args.self.now.bad.now) m c.args.b (omega arith) (sym c.if-is_listed.ensures))
     record { answer = refl; buffer = laid_read 0 (listed c.args.self.now.bad.now) m c.args.b c.load.new.into c.load.array_long c.load.ensures }

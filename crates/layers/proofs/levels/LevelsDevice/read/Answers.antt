@@ -1,6 +1,5 @@
-use Rattle.std.proofs.Common.{◌≡◌, ℕ, ◌+◌, List, sym, refl, ap, ◌∙◌, arith}
-use Rattle.device.specs.Blocks.{Block}
-use Rattle.device.specs.Answers.{fetch, answered, filled}
+use Rattle.std.proofs.Common.{◌≡◌, ℕ, ◌+◌, refl, ap, ◌∙◌, arith}
+use Rattle.device.specs.Answers.{fetch}
 use Rattle.device.specs.Held.{Held, shows}
 use Rattle.device.proofs.Lens.{whole_seen_all}
 use Rattle.layers.specs.Nested.{origin}

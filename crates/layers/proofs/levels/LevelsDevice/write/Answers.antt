@@ -1,7 +1,7 @@
 use Rattle.std.proofs.Common.{◌≡◌, ℕ, ◌+◌, sym, refl, ap, ◌∙◌, arith}
 use Rattle.device.specs.Answers.{fetch, stored}
 use Rattle.device.specs.Held.{Held, shows}
-use Rattle.device.specs.Fixed.{Fixed, tabled}
+use Rattle.device.specs.Fixed.{tabled}
 use Rattle.device.proofs.Lens.{whole_seen_all}
 use Rattle.layers.specs.Nested.{origin}
 use Rattle.layers.specs.Mounts.{table}

@@ -1,5 +1,5 @@
-use Rattle.std.proofs.Common.{◌≡◌, ℕ, ◌+◌, sym, refl, ap, ◌∙◌, arith, rules}
-use Rattle.layers.specs.Nested.{origin, at}
+use Rattle.std.proofs.Common.{◌≡◌, ◌+◌, refl, ap, ◌∙◌, arith}
+use Rattle.layers.specs.Nested.{origin}
 use Rattle.layers.proofs.Nests.{origin_inside, origin_more}
 use Rattle.layers.proofs.table.LevelTable.origin.Goals as goal
 
@@ -7,8 +7,8 @@ pub loop-k-init : goal.loop-k-init
 unfolding origin
 loop-k-init c = refl
 
-pub overflow-add-first-in-loop-k : goal.overflow-add-first-in-loop-k
-overflow-add-first-in-loop-k c =
+pub overflow_add-first-in-loop-k : goal.overflow_add-first-in-loop-k
+overflow_add-first-in-loop-k c =
     let t = c.args.self.now in
     let last = origin_inside t.records t.depth t.inside.2 (c.loop-k.k + 1) (omega arith) in
     omega (arith, last, origin_more t.records c.loop-k.k, t.inside.3)
