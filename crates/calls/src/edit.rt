@@ -6,7 +6,7 @@ ghost use Rattle.edits.specs.Values.{value_of};
 ghost use Rattle.calls.specs.Loaded.{Loaded};
 ghost use Rattle.calls.specs.Plans.{plan_answer, plan_blocks, delete_change};
 
-use changes::segment::empty_at;
+use changes::rewrite::empty_at;
 use codec::name::Name;
 use device::Device;
 use places::find::find_place;

@@ -1,4 +1,4 @@
 // Changes of the directory in the workspace.
 #![tactic(auto)]
 
-pub mod segment;
+pub mod rewrite;

@@ -1,7 +1,7 @@
 use Rattle.std.proofs.Common.{refl, ◌∙◌}
 use Rattle.edits.specs.Entries.{renamed}
 use Rattle.changes.proofs.Written.{put_one}
-use Rattle.changes.proofs.segment.rename_at.Goals as goal
+use Rattle.changes.proofs.rewrite.rename_at.Goals as goal
 
 pub returns : goal.returns
 returns c =

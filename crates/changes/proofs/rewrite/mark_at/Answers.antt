@@ -1,7 +1,7 @@
 use Rattle.std.proofs.Common.{refl, ◌∙◌}
 use Rattle.edits.specs.Entries.{marked}
 use Rattle.changes.proofs.Written.{put_one}
-use Rattle.changes.proofs.segment.mark_at.Goals as goal
+use Rattle.changes.proofs.rewrite.mark_at.Goals as goal
 
 pub returns : goal.returns
 returns c =

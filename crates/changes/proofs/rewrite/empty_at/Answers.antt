@@ -1,7 +1,7 @@
 use Rattle.std.proofs.Common.{◌∙◌}
 use Rattle.edits.specs.Edits.{emptied}
 use Rattle.changes.proofs.Written.{put_with}
-use Rattle.changes.proofs.segment.empty_at.Goals as goal
+use Rattle.changes.proofs.rewrite.empty_at.Goals as goal
 
 pub returns : goal.returns
 returns c =
