@@ -1,5 +1,5 @@
 -- Rules 8 and 9, of the names of files.
-use Rattle.std.specs.Prelude.{◌≡◌, ℕ, ◌<◌, ◌⊎◌, List, length, get_or, Decides, ◌≢◌, slice_index_or}
+use Rattle.std.specs.Prelude.{◌≡◌, ℕ, ◌<◌, ◌⊎◌, List, length, Decides, ◌≢◌, slice_index_or}
 use Rattle.std.specs.List.{AllByRecursion}
 use Rattle.codec.specs.declared.name.Name.{Name}
 use Rattle.volume.specs.declared.entry.Status.TheVariants.{Permanent, Protected}
@@ -21,7 +21,7 @@ FilesWellNamed ps = AllByRecursion (λ p. IsFile p → WordsBelow p.name) ps
 abbrev pub FilesApart : List Placed → Type 0
 FilesApart ps =
     (i j : ℕ) (d : Placed) → i < j → j < length ps → IsFile (slice_index_or ps i d) → IsFile (slice_index_or ps j d)
-    → (get_or ps i d).name ≢ (get_or ps j d).name
+    → (slice_index_or ps i d).name ≢ (slice_index_or ps j d).name
 
 abbrev pub RuleEight : Type 0
 RuleEight = (ps : List Placed) → Decides (all_well_named ps) (FilesWellNamed ps)
