@@ -1,7 +1,8 @@
 -- One segment of a directory in the workspace, with its entries changed.
-use Rattle.std.specs.Prelude.{ℕ, ◌-◌, ◌*◌, ◌<◌, ◌≤◌, List, length}
+use Rattle.std.specs.Prelude.{ℕ, ◌-◌, ◌*◌, ◌<◌, ◌≤◌, List, [], length, slice_index_or}
 use Rattle.codec.specs.Words.{word_at, written}
 use Rattle.volume.specs.declared.entry.Entry.{Entry}
+use Rattle.volume.specs.declared.entry.Status.TheVariants.{Tentative}
 use Rattle.volume.specs.Segments.{segment_bytes}
 use Rattle.directory.specs.Walks.{blocks_of, Readable}
 use Rattle.edits.specs.Values.{value_at}
@@ -10,6 +11,12 @@ use Rattle.slots.specs.Slots.{header_at}
 -- the entries of segment k
 abbrev pub entries_in : List ℕ → ℕ → List Entry
 entries_in dir k = value_at (word_at dir 6) dir k
+
+-- entry i of segment k; past the last one a record of zeros
+abbrev pub entry_in : List ℕ → ℕ → ℕ → Entry
+entry_in dir k i =
+    slice_index_or (entries_in dir k) i
+    (record { status = Tentative; name = record { first = 0; second = 0; kind = 0 }; length = 0; job = 0; date = 0; extra = [] })
 
 -- entry i of segment k of a sound directory
 pub record EntryIn (dir : List ℕ) (k i : ℕ) : Type 0 where

@@ -1,10 +1,9 @@
 // Changes of one segment of the directory in the workspace.
-ghost use Rattle.std.specs.Prelude.{◌≡◌, ◌<◌, [], ◌∷◌, slice_index_or};
-ghost use Rattle.volume.proofs.Encoding.{no_entry};
+ghost use Rattle.std.specs.Prelude.{◌≡◌, [], ◌∷◌};
 ghost use Rattle.edits.specs.Entries.{renamed, marked};
 ghost use Rattle.edits.specs.Edits.{emptied, spliced};
 ghost use Rattle.slots.specs.Slots.{slot_entries};
-ghost use Rattle.changes.specs.Segments.{entries_in, EntryIn, with_entries};
+ghost use Rattle.changes.specs.Segments.{entry_in, EntryIn, with_entries};
 
 use codec::name::Name;
 use slots::bytes::{Slots, all_entries, entries_at, header_at, put_segment};
@@ -38,7 +37,7 @@ fn marked(e: Entry, status: Status) -> Entry
 // Gives entry i of segment k another name.
 pub fn rename_at(dir: &mut [u8], k: usize, i: usize, name: Name)
     requires { EntryIn dir.old k i }
-    ensures { dir.new ≡ with_entries dir.old k (spliced i 1 (renamed name (slice_index_or (entries_in dir.old k) i no_entry) ∷ [])) }
+    ensures { dir.new ≡ with_entries dir.old k (spliced i 1 (renamed name (entry_in dir.old k i) ∷ [])) }
 {
     let header = header_at(dir, k);
     let mut slots = entries_at(dir, k, header.extra);
@@ -50,7 +49,7 @@ pub fn rename_at(dir: &mut [u8], k: usize, i: usize, name: Name)
 // Gives entry i of segment k another status.
 pub fn mark_at(dir: &mut [u8], k: usize, i: usize, status: Status)
     requires { EntryIn dir.old k i }
-    ensures { dir.new ≡ with_entries dir.old k (spliced i 1 (marked status (slice_index_or (entries_in dir.old k) i no_entry) ∷ [])) }
+    ensures { dir.new ≡ with_entries dir.old k (spliced i 1 (marked status (entry_in dir.old k i) ∷ [])) }
 {
     let header = header_at(dir, k);
     let mut slots = entries_at(dir, k, header.extra);
