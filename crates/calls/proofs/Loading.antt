@@ -7,6 +7,8 @@ use Rattle.device.proofs.Fetches.{ok_err}
 use Rattle.codec.specs.Words.{word_at}
 use Rattle.volume.specs.declared.fault.FileFault.{FileFault}
 use Rattle.volume.specs.declared.fault.FileFault.TheVariants.{OfDevice, NotSound, WorkspaceTooSmall}
+use Rattle.volume.specs.declared.rule.Rule.TheVariants.{LevelSize, DirectorySize}
+use Rattle.volume.specs.Rules.{rule_of}
 use Rattle.volume.specs.Faults.{after}
 use Rattle.volume.specs.Levels.{level_size, segments_fit}
 use Rattle.volume.specs.Transfers.{readable, AllGood}
@@ -27,9 +29,9 @@ use Rattle.calls.specs.Loaded.{Loaded}
 rule_none : (s r z : ℕ) → judged s r ≡ Ok z → (s ≡ z) × (r ≡ 0)
 rule_none s r z = go (eqb r 0) refl
   where
-    go : (b : Bool) → eqb r 0 ≡ b → ◌≡◌ {A = Result ℕ FileFault} (cond b (Ok s) (Err (NotSound r))) (Ok z) → (s ≡ z) × (r ≡ 0)
+    go : (b : Bool) → eqb r 0 ≡ b → ◌≡◌ {A = Result ℕ FileFault} (cond b (Ok s) (Err (NotSound (rule_of r)))) (Ok z) → (s ≡ z) × (r ≡ 0)
     go true e q = (cc, eqb-true r 0 e)
-    go false e q = absurd (ok_err z (NotSound r) (sym q))
+    go false e q = absurd (ok_err z (NotSound (rule_of r)) (sym q))
 
 pub record Accepted (bs : List Block) (o : Option Pending) (s : ℕ) : Type 0 where
   pub many : segments bs ≡ s

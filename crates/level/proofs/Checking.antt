@@ -1,10 +1,14 @@
 -- The answers of `check`.
-use Rattle.std.proofs.Common.{◌≡◌, ℕ, ◌*◌, ◌≤◌, List, length, get_or, take, Ok, Err, Option, ap, ◌∙◌, subst, arith}
+use Rattle.std.proofs.Common.{◌≡◌, ℕ, ◌*◌, ◌≤◌, List, length, get_or, take, Ok, Err, Option, refl, ap, ◌∙◌, subst, arith}
 use Rattle.std.proofs.lemmas.List.{length-take-le, get_or-take}
 use Rattle.device.specs.Blocks.{Block}
 use Rattle.codec.specs.Words.{word_at}
 use Rattle.volume.specs.declared.fault.FileFault.{FileFault}
+use Rattle.volume.specs.declared.fault.FileFault.TheVariants.{NotSound}
+use Rattle.volume.specs.declared.rule.Rule.{Rule}
+use Rattle.volume.specs.declared.rule.Rule.TheVariants.{LevelSize, DirectorySize, SegmentsInUse, Chain, ExtraBytes, Entries, Contiguous, Names, NameTwice}
 use Rattle.volume.specs.Levels.{level_size}
+use Rattle.volume.specs.Rules.{rule_number}
 use Rattle.directory.specs.declared.pending.Pending.{Pending}
 use Rattle.directory.specs.Rules.{broken_rule}
 use Rattle.directory.specs.Sounds.{SoundBytes}
@@ -20,6 +24,18 @@ pub check_rule : (n : ℕ) (bs : List Block) (o : Option Pending) (s v r : ℕ) 
 unfolding check_answer
 check_rule n bs o s v r dir q d e p =
     ap (judged s) (p ∙ ap (λ (z : List ℕ). broken_rule z v o) d ∙ ap (λ (z : ℕ). broken_rule (directory bs s) z o) e) ∙ ap (checked bs o) q
+
+-- the number of a rule is that rule's only
+pub judged_rule : (s : ℕ) (r : Rule) → judged s (rule_number r) ≡ Err (NotSound r)
+judged_rule s LevelSize = refl
+judged_rule s DirectorySize = refl
+judged_rule s SegmentsInUse = refl
+judged_rule s Chain = refl
+judged_rule s ExtraBytes = refl
+judged_rule s Entries = refl
+judged_rule s Contiguous = refl
+judged_rule s Names = refl
+judged_rule s NameTwice = refl
 
 -- what is known of the directory's part of a workspace
 module _ (dir work : List ℕ) (s : ℕ) (e : dir ≡ take (1024 * s) work) (h₁ : 1 ≤ s) (h₂ : s ≤ 31) (l : 32768 ≤ length work) (w : word_at work 0 ≡ s) where

@@ -7,6 +7,7 @@ use Rattle.volume.specs.Levels.{level_size, segments_fit}
 use Rattle.volume.specs.Faults.{after}
 use Rattle.volume.specs.Transfers.{readable, AllGood}
 use Rattle.volume.specs.declared.fault.FileFault.TheVariants.{OfDevice, NotSound, WorkspaceTooSmall}
+use Rattle.volume.specs.declared.rule.Rule.TheVariants.{LevelSize, DirectorySize}
 use Rattle.level.specs.Loads.{segments, rest_loaded, loaded, load_answer}
 
 pub load_small : (n : ℕ) (bs : List Block) → n < 32768 → Err WorkspaceTooSmall ≡ load_answer n bs

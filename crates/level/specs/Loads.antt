@@ -5,6 +5,7 @@ use Rattle.device.specs.Blocks.{Block, byte, table}
 use Rattle.codec.specs.Words.{written}
 use Rattle.volume.specs.declared.fault.FileFault.{FileFault}
 use Rattle.volume.specs.declared.fault.FileFault.TheVariants.{NotSound, WorkspaceTooSmall}
+use Rattle.volume.specs.declared.rule.Rule.TheVariants.{LevelSize, DirectorySize}
 use Rattle.volume.specs.Faults.{after}
 use Rattle.volume.specs.Levels.{level_size, segments_fit}
 use Rattle.volume.specs.Transfers.{readable}

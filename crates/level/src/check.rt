@@ -23,8 +23,6 @@ pub fn check<D: Device>(d: &D, work: &mut [u8], output: Option<Pending>) -> Resu
     ensures range { IfOk result (λ s. (1 ≤ s) × (s ≤ 31) × (32768 ≤ length work.old)) }
 {
     let total = load(d, work)?;
-    match broken_rule(directory_of(work, total), level_size(d), output) {
-        0 => Ok(total),
-        rule => Err(FileFault::NotSound(rule)),
-    }
+    broken_rule(directory_of(work, total), level_size(d), output)?;
+    Ok(total)
 }

@@ -11,6 +11,7 @@ use device::Device;
 use device::fault::DeviceFault;
 use volume::fault::FileFault;
 use volume::level::{level_size, segments_fit};
+use volume::rule::Rule;
 
 // Reads block b to a place of the workspace.
 fn read_to<D: Device>(d: &D, b: u32, work: &mut [u8], at: usize) -> Result<(), DeviceFault>
@@ -50,12 +51,12 @@ pub fn load<D: Device>(d: &D, work: &mut [u8]) -> Result<usize, FileFault>
     }
     let blocks = level_size(d);
     if blocks < 9 {
-        return Err(FileFault::NotSound(1));
+        return Err(FileFault::NotSound(Rule::LevelSize));
     }
     read_blocks(d, 0, 2, work)?;
     let total = word_at(work, 0);
     if !segments_fit(total, blocks) {
-        return Err(FileFault::NotSound(2));
+        return Err(FileFault::NotSound(Rule::DirectorySize));
     }
     read_blocks(d, 2, 2 * total as u32, work)?;
     Ok(total as usize)

@@ -26,10 +26,8 @@ pub fn lookup<D: Device>(
     }
     let name = Name::from_bytes(name)?;
     let total = check(d, work, output)?;
-    match find_file(directory_of(work, total), name) {
-        None => Err(FileFault::NoSuchFile),
-        Some(file) => Ok((file.start, file.length, file.date)),
-    }
+    let file = find_file(directory_of(work, total), name).ok_or(FileFault::NoSuchFile)?;
+    Ok((file.start, file.length, file.date))
 }
 
 // READ: one block of a file.

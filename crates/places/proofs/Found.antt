@@ -58,16 +58,7 @@ wants_tentative k i at e = test_cleaned is_tentative (λ m. refl) e (λ y. not_t
 
 -- what the code tells of an entry
 abbrev pub file_told : ℕ × Placed → FilePlace
-file_told e =
-    record {
-      place = e.0;
-      segment = e.1.segment;
-      index = e.1.index;
-      start = e.1.start;
-      length = e.1.length;
-      date = e.1.date;
-      protected = protected_status e.1.status;
-    }
+file_told e = record { entry = entry_told e; date = e.1.date; protected = protected_status e.1.status }
 
 pub file-found : (dir : List ℕ) (n : Name) → option_map file_told (first_wanted (File n) (chained_of dir)) ≡ file_place dir n
 unfolding first_wanted file_place
@@ -79,11 +70,7 @@ file-found dir n =
     told : ℕ → ℕ → Place → FilePlace
     told k at a =
         record {
-          place = a.segment;
-          segment = k;
-          index = a.index;
-          start = at;
-          length = a.entry.length;
+          entry = record { place = a.segment; segment = k; index = a.index; start = at; length = a.entry.length };
           date = a.entry.date;
           protected = protected_status a.entry.status;
         }

@@ -55,7 +55,7 @@ low_more least b a p e q h l =
     )) (λ _. h))
 
 abbrev LowEmpty : Option EmptyPlace → Type 0
-LowEmpty o = IfSome o (λ e. e.start ≤ 200000000)
+LowEmpty o = IfSome o (λ e. e.entry.start ≤ 200000000)
 
 low_given : (n : ℕ) (o : Option EntryPlace) → LowPlace o → LowEmpty (given_of n o)
 low_given n None h = tt
@@ -65,10 +65,10 @@ low_whole : (o : Option EntryPlace) → LowPlace o → LowEmpty (whole_of o)
 low_whole None h = tt
 low_whole (Some a) h = cond_both (eqb a.length 0) None (Some (giving a.length a)) LowEmpty (λ _. tt) (λ _. h)
 
-low_or_second : (a : EntryPlace) (o : Option EntryPlace) → a.start ≤ 200000000 → LowPlace o → (half_or_second a o).start ≤ 200000000
+low_or_second : (a : EntryPlace) (o : Option EntryPlace) → a.start ≤ 200000000 → LowPlace o → (half_or_second a o).entry.start ≤ 200000000
 low_or_second a None h g = h
 low_or_second a (Some b) h g =
-    cond_both (ltb (half_of a.length) b.length) (giving b.length b) (giving (half_of a.length) a) (λ x. x.start ≤ 200000000) (λ _. g) (λ _. h)
+    cond_both (ltb (half_of a.length) b.length) (giving b.length b) (giving (half_of a.length) a) (λ x. x.entry.start ≤ 200000000) (λ _. g) (λ _. h)
 
 low_half : (o s : Option EntryPlace) → LowPlace o → LowPlace s → LowEmpty (half_from o s)
 low_half None s h g = tt

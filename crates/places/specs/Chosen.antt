@@ -50,7 +50,7 @@ best_after least b (e ∷ es) = best_after least (with_entry least b e) es
 
 abbrev pub giving : ℕ → EntryPlace → EmptyPlace
 giving n a =
-    record { place = a.place; segment = a.segment; index = a.index; start = a.start; length = a.length; given = n }
+    record { entry = a; given = n }
 
 abbrev pub given_of : ℕ → Option EntryPlace → Option EmptyPlace
 given_of n o = option_map (giving n) o

@@ -43,8 +43,8 @@ pub record Told (p : Entry → Bool) (dir : List ℕ) (k i number at : ℕ) (e :
 
 pub record FileTold (dir : List ℕ) (n : Name) (f : FilePlace) : Type 0 where
   pub entry : Entry
-  pub told : Told (is_named n) dir f.place f.index f.segment f.start entry
-  pub long : f.length ≡ entry.length
+  pub told : Told (is_named n) dir f.entry.place f.entry.index f.entry.segment f.entry.start entry
+  pub long : f.entry.length ≡ entry.length
   pub dated : f.date ≡ entry.date
   pub guarded : f.protected ≡ is_protected entry
 
@@ -65,14 +65,14 @@ TentativeIsTold =
 -- the empty that an ask gets
 pub record EmptyTold (dir : List ℕ) (ask : Ask) (f : EmptyPlace) : Type 0 where
   pub entry : Entry
-  pub chosen : choice ask (value_of dir) ≡ Some (record { place = place_of f.place f.index entry; given = f.given })
-  pub stands : Stands (value_of dir).segments f.place f.index entry
+  pub chosen : choice ask (value_of dir) ≡ Some (record { place = place_of f.entry.place f.entry.index entry; given = f.given })
+  pub stands : Stands (value_of dir).segments f.entry.place f.entry.index entry
   pub empty : is_empty entry ≡ true
-  pub enough : f.given ≤ f.length
-  pub starts : f.start ≡ place_start (value_of dir) (place_of f.place f.index entry)
-  pub inside : f.place < length (chain_of dir)
-  pub numbered : f.segment ≡ slice_index (chain_of dir) f.place
-  pub long : f.length ≡ entry.length
+  pub enough : f.given ≤ f.entry.length
+  pub starts : f.entry.start ≡ place_start (value_of dir) (place_of f.entry.place f.entry.index entry)
+  pub inside : f.entry.place < length (chain_of dir)
+  pub numbered : f.entry.segment ≡ slice_index (chain_of dir) f.entry.place
+  pub long : f.entry.length ≡ entry.length
 
 abbrev pub EmptyIsTold : Type 0
 EmptyIsTold =

@@ -28,22 +28,6 @@ abbrev pub first : {X : Type 0} → List X → Option X
 first [] = None
 first (x ∷ xs) = Some x
 
-abbrev pub file_at : List ℕ → Place → FilePlace
-file_at dir a =
-    record {
-      place = a.segment;
-      segment = number_of dir a;
-      index = a.index;
-      start = place_start (value_of dir) a;
-      length = size a;
-      date = a.entry.date;
-      protected = is_protected a.entry;
-    }
-
--- where the file of a name stands
-unfoldable pub file_place : List ℕ → Name → Option FilePlace
-file_place dir name = option_map (file_at dir) (first (places (is_named name) (value_of dir).segments))
-
 abbrev pub entry_at : List ℕ → Place → EntryPlace
 entry_at dir a =
     record {
@@ -54,20 +38,21 @@ entry_at dir a =
       length = size a;
     }
 
+abbrev pub file_at : List ℕ → Place → FilePlace
+file_at dir a =
+    record { entry = entry_at dir a; date = a.entry.date; protected = is_protected a.entry }
+
+-- where the file of a name stands
+unfoldable pub file_place : List ℕ → Name → Option FilePlace
+file_place dir name = option_map (file_at dir) (first (places (is_named name) (value_of dir).segments))
+
 -- where the first tentative entry stands
 unfoldable pub tentative_place : List ℕ → Option EntryPlace
 tentative_place dir = option_map (entry_at dir) (first (places is_tentative (value_of dir).segments))
 
 abbrev pub empty_at : List ℕ → Choice → EmptyPlace
 empty_at dir c =
-    record {
-      place = c.place.segment;
-      segment = number_of dir c.place;
-      index = c.place.index;
-      start = place_start (value_of dir) c.place;
-      length = size c.place;
-      given = c.given;
-    }
+    record { entry = entry_at dir c.place; given = c.given }
 
 -- where the empty that an ask gets stands
 unfoldable pub empty_place : List ℕ → Ask → Option EmptyPlace

@@ -27,28 +27,14 @@ struct Best {
 fn is_empty(entry: Placed) -> bool
     ensures { result ≡ is_empty entry }
 {
-    match entry.status {
-        Status::Tentative => false,
-        Status::Empty => true,
-        Status::Permanent => false,
-        Status::Protected => false,
-    }
+    matches!(entry.status, Status::Empty)
 }
 
 // The first of so many blocks, with one empty more.
 fn first_fit(first: Option<EntryPlace>, empty: EntryPlace, least: u16) -> Option<EntryPlace>
     ensures { result ≡ first_fit least first empty }
 {
-    match first {
-        Some(a) => Some(a),
-        None => {
-            if least <= empty.length {
-                Some(empty)
-            } else {
-                None
-            }
-        }
-    }
+    first.or_else(|| (least <= empty.length).then_some(empty))
 }
 
 // The largest, with one empty more: the first of equals.
@@ -56,8 +42,8 @@ fn larger(largest: Option<EntryPlace>, empty: EntryPlace) -> EntryPlace
     ensures { result ≡ larger largest empty }
 {
     match largest {
-        Some(a) => { if a.length < empty.length { empty } else { a } }
-        None => empty,
+        Some(a) if a.length >= empty.length => a,
+        _ => empty,
     }
 }
 
@@ -69,16 +55,12 @@ fn second_of(
 ) -> Option<EntryPlace>
     ensures { result ≡ second_of largest second empty }
 {
-    match largest {
-        Some(top) => {
-            if top.length < empty.length {
-                Some(top)
-            } else {
-                Some(larger(second, empty))
-            }
-        }
-        None => None,
-    }
+    let top = largest?;
+    Some(if top.length < empty.length {
+        top
+    } else {
+        larger(second, empty)
+    })
 }
 
 // The best with one entry more.
@@ -136,11 +118,7 @@ fn giving(blocks: u16, a: EntryPlace) -> EmptyPlace
     ensures { result ≡ giving blocks a }
 {
     EmptyPlace {
-        place: a.place,
-        segment: a.segment,
-        index: a.index,
-        start: a.start,
-        length: a.length,
+        entry: a,
         given: blocks,
     }
 }
@@ -148,26 +126,16 @@ fn giving(blocks: u16, a: EntryPlace) -> EmptyPlace
 fn given_of(blocks: u16, first: Option<EntryPlace>) -> Option<EmptyPlace>
     ensures { result ≡ given_of blocks first }
 {
-    match first {
-        Some(a) => Some(giving(blocks, a)),
-        None => None,
-    }
+    first.map(|a| giving(blocks, a))
 }
 
 // The whole largest, unless it has no blocks.
 fn whole_of(largest: Option<EntryPlace>) -> Option<EmptyPlace>
     ensures { result ≡ whole_of largest }
 {
-    match largest {
-        Some(a) => {
-            if a.length == 0 {
-                None
-            } else {
-                Some(giving(a.length, a))
-            }
-        }
-        None => None,
-    }
+    largest
+        .filter(|a| a.length != 0)
+        .map(|a| giving(a.length, a))
 }
 
 // Half of some blocks, rounded up.
@@ -183,30 +151,17 @@ fn half_or_second(a: EntryPlace, second: Option<EntryPlace>) -> EmptyPlace
 {
     let half = half_of(a.length);
     match second {
-        Some(b) => {
-            if half < b.length {
-                giving(b.length, b)
-            } else {
-                giving(half, a)
-            }
-        }
-        None => giving(half, a),
+        Some(b) if half < b.length => giving(b.length, b),
+        _ => giving(half, a),
     }
 }
 
 fn half_from(largest: Option<EntryPlace>, second: Option<EntryPlace>) -> Option<EmptyPlace>
     ensures { result ≡ half_from largest second }
 {
-    match largest {
-        Some(a) => {
-            if a.length == 0 {
-                None
-            } else {
-                Some(half_or_second(a, second))
-            }
-        }
-        None => None,
-    }
+    largest
+        .filter(|a| a.length != 0)
+        .map(|a| half_or_second(a, second))
 }
 
 // How many blocks the first has to have.
@@ -214,8 +169,7 @@ fn least_of(ask: Ask) -> u16
     ensures { result ≡ least_of ask }
 {
     match ask {
-        Ask::Whole => 0,
-        Ask::Half => 0,
+        Ask::Whole | Ask::Half => 0,
         Ask::Exact(blocks) => blocks,
     }
 }
@@ -235,7 +189,7 @@ fn decided(ask: Ask, best: Best) -> Option<EmptyPlace>
 pub fn choose(dir: &[u8], ask: Ask) -> Option<EmptyPlace>
     requires { SoundBytes dir.now }
     ensures empty { result ≡ empty_place dir.now ask }
-    ensures start { IfSome result (λ f. f.start ≤ 200000000) }
+    ensures start { IfSome result (λ f. f.entry.start ≤ 200000000) }
 {
     decided(ask, best_of(dir, least_of(ask)))
 }

@@ -86,32 +86,20 @@ pub(crate) fn entry_told(place: usize, entry: Placed) -> EntryPlace
 fn is_protected(status: Status) -> bool
     ensures { result ≡ protected_status status }
 {
-    match status {
-        Status::Tentative => false,
-        Status::Empty => false,
-        Status::Permanent => false,
-        Status::Protected => true,
-    }
+    matches!(status, Status::Protected)
 }
 
 // Where the file of a name stands. For our other crates, as that below: the caller has found the directory sound.
 pub fn find_place(dir: &[u8], name: Name) -> Option<FilePlace>
     requires { SoundBytes dir.now }
     ensures file { result ≡ file_place dir.now name }
-    ensures start { IfSome result (λ f. f.start ≤ 200000000) }
+    ensures start { IfSome result (λ f. f.entry.start ≤ 200000000) }
 {
-    match first_wanted(dir, Wanted::File(name)) {
-        None => None,
-        Some((place, entry)) => Some(FilePlace {
-            place,
-            segment: entry.segment,
-            index: entry.index,
-            start: entry.start,
-            length: entry.length,
-            date: entry.date,
-            protected: is_protected(entry.status),
-        }),
-    }
+    first_wanted(dir, Wanted::File(name)).map(|(place, entry)| FilePlace {
+        entry: entry_told(place, entry),
+        date: entry.date,
+        protected: is_protected(entry.status),
+    })
 }
 
 // Where the first tentative entry stands.
@@ -120,8 +108,5 @@ pub fn find_tentative(dir: &[u8]) -> Option<EntryPlace>
     ensures entry { result ≡ tentative_place dir.now }
     ensures start { IfSome result (λ f. f.start ≤ 200000000) }
 {
-    match first_wanted(dir, Wanted::Tentative) {
-        None => None,
-        Some((place, entry)) => Some(entry_told(place, entry)),
-    }
+    first_wanted(dir, Wanted::Tentative).map(|(place, entry)| entry_told(place, entry))
 }

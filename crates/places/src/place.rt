@@ -11,25 +11,17 @@ pub struct EntryPlace {
     pub length: u16,
 }
 
-// A file, as an entry above, its date, and whether it is protected.
+// A file: its entry, its date, and whether it is protected.
 #[derive(Clone, Copy)]
 pub struct FilePlace {
-    pub place: usize,
-    pub segment: usize,
-    pub index: usize,
-    pub start: u32,
-    pub length: u16,
+    pub entry: EntryPlace,
     pub date: u16,
     pub protected: bool,
 }
 
-// An empty, as an entry above, and how many of its blocks an ask gets.
+// An empty: its entry, and how many of its blocks an ask gets.
 #[derive(Clone, Copy)]
 pub struct EmptyPlace {
-    pub place: usize,
-    pub segment: usize,
-    pub index: usize,
-    pub start: u32,
-    pub length: u16,
+    pub entry: EntryPlace,
     pub given: u16,
 }

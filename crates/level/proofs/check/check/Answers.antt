@@ -21,35 +21,29 @@ broken_rule-requires g c =
     let t = part_total _ c.load.new.work c.in_ok-total.total c.directory_of.ensures h.range.0 h.range.1 long h.range.3 in
     (omega (arith, n), (omega (arith, t), omega (arith, n, t)))
 
-pub returns-in-0 : goal.returns-in-0
-returns-in-0 g c =
+pub returns : goal.returns
+returns g c =
     let n : ℕ = length c.args.work.now in
     let bs : List Block = shows (g.D.Device.held c.args.d.now) in
     let h = c.in_ok-total.ensures in
     let long : 32768 ≤ length c.load.new.work = omega arith in
     let s : ℕ = c.in_ok-total.total in
     let d = c.directory_of.ensures ∙ h.bytes in
-    let r = check_rule n bs c.args.output s c.level_size.result c.broken_rule.result _ h.answer d c.level_size.ensures c.broken_rule.ensures in
     record {
-      answer = sym (cond-true _ _ _ (eq-eqb c.broken_rule.result 0 c.in-0.is)) ∙ r;
+      answer = check_rule n bs c.args.output s c.level_size.result 0 _ h.answer d c.level_size.ensures c.in_ok-broken_rule.ensures;
       bytes = h.bytes;
-      sound = part_sound _ c.load.new.work c.in_ok-total.total c.directory_of.ensures h.range.0 h.range.1 long h.range.3 c.level_size.result c.args.output (sym c.broken_rule.ensures ∙ c.in-0.is);
+      sound = part_sound _ c.load.new.work c.in_ok-total.total c.directory_of.ensures h.range.0 h.range.1 long h.range.3 c.level_size.result c.args.output (sym c.in_ok-broken_rule.ensures);
       good = h.good;
       range = (h.range.0, h.range.1, h.range.2);
     }
 
-pub returns-in_default : goal.returns-in_default
-returns-in_default g c =
+pub returns-in_err-broken_rule : goal.returns-in_err-broken_rule
+returns-in_err-broken_rule g c =
     let n : ℕ = length c.args.work.now in
     let bs : List Block = shows (g.D.Device.held c.args.d.now) in
     let h = c.in_ok-total.ensures in
     let s : ℕ = c.in_ok-total.total in
     let d = c.directory_of.ensures ∙ h.bytes in
-    let r = check_rule n bs c.args.output s c.level_size.result c.broken_rule.result _ h.answer d c.level_size.ensures c.broken_rule.ensures in
-    record {
-      answer = sym (cond-false _ _ _ (ne_eqb c.broken_rule.result 0 (λ e. omega arith))) ∙ r;
-      bytes = tt;
-      sound = tt;
-      good = tt;
-      range = tt;
-    }
+    let p = err_from_is_err_and c.from_residual-in_err-broken_rule.result c.from_residual-in_err-broken_rule.ensures.1 in
+    let r = check_rule n bs c.args.output s c.level_size.result _ _ h.answer d c.level_size.ensures c.in_err-broken_rule.ensures in
+    rw (p.1, p.2) (record { answer = sym (judged_rule s _) ∙ r; bytes = tt; sound = tt; good = tt; range = tt })

@@ -15,6 +15,6 @@ returns c =
           ∙ (ap (λ (n : ℕ). decided c.args.ask (best_after n none_yet (chained_of c.args.dir.now))) c.least_of.ensures
           ∙ best_chosen c.args.dir.now c.args.ask));
       start =
-          subst (λ (o : Option EmptyPlace). IfSome o (λ f. f.start ≤ 200000000)) (sym c.decided.ensures)
+          subst (λ (o : Option EmptyPlace). IfSome o (λ f. f.entry.start ≤ 200000000)) (sym c.decided.ensures)
           (low_decided c.args.ask c.best_of.result c.best_of.ensures.low);
     }
