@@ -43,7 +43,7 @@ accepted n bs o s =
   where
     go : (t u w : Bool) → segments_fit (segments bs) (level_size bs) ≡ w → (p q : Result (Unit {0}) DeviceFault)
         → ◌≡◌ {A = Result ℕ FileFault}
-        (checked bs o (cond t (cond u (after p (cond w (after q (Ok (segments bs))) (Err (NotSound 2)))) (Err (NotSound 1))) (Err WorkspaceTooSmall))) (Ok s)
+        (checked bs o (cond t (cond u (after p (cond w (after q (Ok (segments bs))) (Err (NotSound DirectorySize)))) (Err (NotSound LevelSize))) (Err WorkspaceTooSmall))) (Ok s)
         → Accepted bs o s
     go true true true f (Ok x) (Ok y) e =
         let r = rule_none (segments bs) _ s e in
@@ -54,9 +54,9 @@ accepted n bs o s =
         }
     go true true true f (Ok x) (Err d) e = absurd (ok_err s (OfDevice d) (sym e))
     go true true true f (Err d) q e = absurd (ok_err s (OfDevice d) (sym e))
-    go true true false f (Ok x) q e = absurd (ok_err s (NotSound 2) (sym e))
+    go true true false f (Ok x) q e = absurd (ok_err s (NotSound DirectorySize) (sym e))
     go true true false f (Err d) q e = absurd (ok_err s (OfDevice d) (sym e))
-    go true false w f p q e = absurd (ok_err s (NotSound 1) (sym e))
+    go true false w f p q e = absurd (ok_err s (NotSound LevelSize) (sym e))
     go false u w f p q e = absurd (ok_err s WorkspaceTooSmall (sym e))
 
 pub directory_word : (bs : List Block) (s : ℕ) → 1 ≤ s → word_at (directory bs s) 0 ≡ segments bs

@@ -1,3 +1,4 @@
+pub mod Digits
 pub mod Dates
 pub mod Names
 pub mod Words

@@ -2,5 +2,6 @@
 #![tactic(auto)]
 
 pub mod date;
+pub mod digits;
 pub mod name;
 pub mod words;

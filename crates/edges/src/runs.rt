@@ -40,7 +40,7 @@ pub fn play<D: Device>(
     let mut report = patterned(heap, given.room)?;
     let ran = run(pack, given.run, work.as_mut_slice(), report.as_mut_slice());
     assert_eq!(rt;
-        ran.end.number(),
+        ran.number(),
         told.end,
         "{}; {}; {}",
         given.case,

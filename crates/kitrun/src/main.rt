@@ -3,7 +3,7 @@
 
 use device::image::Image;
 use files::pack::Pack;
-use run::play::{End, run};
+use run::play::run;
 use std::io;
 use std::io::Read;
 
@@ -45,8 +45,8 @@ fn main(rt: HostRuntime) -> io::Result<()> {
         report.as_mut_slice(),
     );
     rt.stdout().write_all(&report[0..20 * ran.lines])?;
-    if ran.end != End::Done {
-        print_number(&rt, ran.end.number())?;
+    if let Err(stop) = ran.end {
+        print_number(&rt, stop.number())?;
     }
     let mut listing = vec![in heap; 0u8; LISTING]?;
     match pack.directory(work.as_mut_slice(), listing.as_mut_slice()) {

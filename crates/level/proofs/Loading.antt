@@ -18,7 +18,7 @@ module _ (n : ℕ) (bs : List Block) (h : 32768 ≤ n) where
   unfolding load_answer
   large = cond-true _ _ _ (le-leb 32768 n h)
 
-  pub load_one : level_size bs < 9 → Err (NotSound 1) ≡ load_answer n bs
+  pub load_one : level_size bs < 9 → Err (NotSound LevelSize) ≡ load_answer n bs
   unfolding loaded
   load_one p = sym (large ∙ cond-false _ _ _ (lt-leb 9 (level_size bs) p))
 
@@ -42,7 +42,7 @@ module _ (n : ℕ) (bs : List Block) (h : 32768 ≤ n) where
         others : readable bs 8 (2 * segments bs - 2) ≡ readable bs 8 (2 * w - 2)
         others = ap (λ (z : ℕ). readable bs 8 (2 * z - 2)) (sym x)
 
-        pub load_two : false ≡ segments_fit w v → Err (NotSound 2) ≡ load_answer n bs
+        pub load_two : false ≡ segments_fit w v → Err (NotSound DirectorySize) ≡ load_answer n bs
         load_two f = sym (second ∙ cond-false _ _ _ (within ∙ sym f))
 
         pub load_other : true ≡ segments_fit w v → (e : DeviceFault) → Err e ≡ readable bs 8 (2 * w - 2) → Err (OfDevice e) ≡ load_answer n bs

@@ -34,11 +34,11 @@ abbrev pub rest_loaded : List Block → Result ℕ FileFault
 rest_loaded bs =
     cond (segments_fit (segments bs) (level_size bs))
     (after (readable bs 8 (2 * segments bs - 2)) (Ok (segments bs)))
-    (Err (NotSound 2))
+    (Err (NotSound DirectorySize))
 
 -- rule 1, blocks 6 and 7, rule 2, the other directory blocks: the segments, or the first refusal
 unfoldable pub loaded : List Block → Result ℕ FileFault
-loaded bs = cond (nat_le 9 (level_size bs)) (after (readable bs 6 2) (rest_loaded bs)) (Err (NotSound 1))
+loaded bs = cond (nat_le 9 (level_size bs)) (after (readable bs 6 2) (rest_loaded bs)) (Err (NotSound LevelSize))
 
 -- the same with a workspace of n bytes
 unfoldable pub load_answer : ℕ → List Block → Result ℕ FileFault

@@ -3,7 +3,8 @@ use Rattle.std.proofs.Common.{◌≡◌, ℕ, ◌+◌, ◌*◌, ◌/◌, ◌%◌
 use native.Mathlib.Nat.{div-div-eq-div-mul}
 use Rattle.std.proofs.lemmas.Fmt.{decimal_digit, decimal_step}
 use Rattle.std.proofs.lemmas.Bool.{cases_lt, lt-ltb, le-ltb}
-use Rattle.listing.specs.Listings.{digit_at, two, four, right_in, plain}
+use Rattle.codec.specs.Digits.{digit_at, two}
+use Rattle.listing.specs.Listings.{four, right_in, plain}
 use Rattle.listing.specs.Columns.{column_at}
 
 -- the digit in front of the last, and the last

@@ -1,6 +1,6 @@
 -- The columns of a number that is right-aligned.
 use Rattle.std.specs.Prelude.{ℕ, cond, nat_lt}
-use Rattle.listing.specs.Listings.{digit_at}
+use Rattle.codec.specs.Digits.{digit_at}
 
 -- the digit of n that stands for so many, or a blank in front of its first
 abbrev pub column_at : ℕ → ℕ → ℕ

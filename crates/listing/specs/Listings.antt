@@ -6,18 +6,12 @@ use Rattle.codec.specs.declared.date.Dating.{Dating}
 use Rattle.codec.specs.declared.date.Dating.TheVariants.{Undated, On}
 use Rattle.codec.specs.declared.name.Name.{Name}
 use Rattle.codec.specs.Dates.{dated_of}
+use Rattle.codec.specs.Digits.{digit_at, two}
 use Rattle.codec.specs.Names.{shown}
 use Rattle.volume.specs.declared.entry.Status.{Status}
 use Rattle.volume.specs.declared.entry.Status.TheVariants.{Tentative, Empty, Permanent, Protected}
 use Rattle.directory.specs.declared.placed.Placed.{Placed}
 use Rattle.directory.specs.Finds.{is_file, blocks_in}
-
--- the digit of n that stands for so many
-abbrev pub digit_at : ℕ → ℕ → ℕ
-digit_at n unit = 48 + n / unit % 10
-
-abbrev pub two : ℕ → List ℕ
-two n = digit_at n 10 ∷ digit_at n 1 ∷ []
 
 abbrev pub four : ℕ → List ℕ
 four n = digit_at n 1000 ∷ digit_at n 100 ∷ two n

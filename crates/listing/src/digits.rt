@@ -1,21 +1,14 @@
 // Numbers in digits.
 ghost use Rattle.std.specs.Prelude.{◌≡◌, ◌+◌, ◌<◌, ◌≤◌, length};
 ghost use Rattle.codec.specs.Words.{written};
-ghost use Rattle.listing.specs.Listings.{digit_at, right_in, plain};
+ghost use Rattle.listing.specs.Listings.{right_in, plain};
 ghost use Rattle.listing.specs.Columns.{column_at};
 
+use codec::digits::digit;
 use codec::words::put;
 
-// The digit of a number that stands for so many.
-pub(crate) fn digit(n: u16, unit: u16) -> u8
-    requires { 0 < unit }
-    ensures { result ≡ digit_at n unit }
-{
-    b'0' + (n / unit % 10) as u8
-}
-
-// The same, but a blank in front of the first digit.
-fn column(n: u16, unit: u16) -> u8
+// The digit of a number that stands for so many, but a blank in front of the first digit.
+fn column(n: u64, unit: u64) -> u8
     requires { 0 < unit }
     ensures { result ≡ column_at n unit }
 {
@@ -26,6 +19,7 @@ fn column(n: u16, unit: u16) -> u8
 pub(crate) fn right_in_five(n: u16) -> [u8; 5]
     ensures { result ≡ right_in 5 (plain n) }
 {
+    let n = u64::from(n);
     [
         column(n, 10000),
         column(n, 1000),

@@ -2,8 +2,9 @@
 ghost use Rattle.std.specs.Prelude.{◌≡◌};
 ghost use Rattle.listing.specs.Listings.{month_name, day_text, date_text, mark, name_text, file_line};
 
-use crate::digits::{digit, right_in_five};
+use crate::digits::right_in_five;
 use codec::date::{Date, Dating, dated};
+use codec::digits::digit;
 use codec::name::Name;
 use codec::words::put;
 use directory::placed::Placed;
@@ -34,7 +35,8 @@ fn month_name(month: u8) -> [u8; 3]
 fn day_text(date: Date) -> [u8; 11]
     ensures { result ≡ day_text date }
 {
-    let day = u16::from(date.day);
+    let day = u64::from(date.day);
+    let year = u64::from(date.year);
     let [first, second, third] = month_name(date.month);
     [
         digit(day, 10),
@@ -44,10 +46,10 @@ fn day_text(date: Date) -> [u8; 11]
         second,
         third,
         b'-',
-        digit(date.year, 1000),
-        digit(date.year, 100),
-        digit(date.year, 10),
-        digit(date.year, 1),
+        digit(year, 1000),
+        digit(year, 100),
+        digit(year, 10),
+        digit(year, 1),
     ]
 }
 

@@ -87,8 +87,6 @@ pub fn write_listing(
 }
 
 // Worked rows of a listing.
-pub fn listing_rows() -> u8
+pub fn listing_rows()
     ensures { ListingRows }
-{
-    0
-}
+{}

@@ -2,15 +2,11 @@
 ghost use Rattle.rulebook.specs.First.{RulesDecided, FirstTold};
 
 // No rule is told as broken exactly where all are kept.
-pub fn rules_decided() -> u8
+pub fn rules_decided()
     ensures { RulesDecided }
-{
-    0
-}
+{}
 
 // A rule is told exactly where it is broken and those before it are kept.
-pub fn first_broken() -> u8
+pub fn first_broken()
     ensures { FirstTold }
-{
-    0
-}
+{}

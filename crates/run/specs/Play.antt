@@ -1,50 +1,34 @@
 -- What a run of fields comes to.
-use Rattle.std.specs.Prelude.{ℕ, zero, suc, ◌+◌, ◌*◌, Bool, cond, List, [], ◌∷◌, length, nat_le, nat_lt}
+use Rattle.std.specs.Prelude.{ℕ, ◌+◌, ◌*◌, Bool, cond, List, [], ◌∷◌, length, Ok, Err, Result, nat_le, nat_lt}
 use Rattle.codec.specs.Words.{written}
 use Rattle.files.specs.States.{State}
-use Rattle.run.specs.declared.play.End.{End}
-use Rattle.run.specs.declared.play.End.TheVariants.{Done, CutShort, ReportFull, RunTooLong, WorkspaceTooSmall}
+use Rattle.run.specs.declared.play.Stop.{Stop}
+use Rattle.run.specs.declared.play.Stop.TheVariants.{CutShort, ReportFull, RunTooLong, WorkspaceTooSmall}
 use Rattle.runfile.specs.Faults.{result_number, result_detail}
 use Rattle.run.specs.Fields.{Outcome, known, performed}
-use Rattle.runfile.specs.Pieces.{Piece, ended, short, whole, next_piece}
+use Rattle.runfile.specs.Items.{Item, field, rump, items}
 use Rattle.runfile.specs.Report.{line_of}
 
 -- 0 where all fields have run, 17 where the last is cut short, 18 where the run is too long, the workspace too small, or the report too
 -- small for the next line
-abbrev pub end_number : End → ℕ
-end_number Done = 0
-end_number CutShort = 17
-end_number ReportFull = 18
-end_number RunTooLong = 18
-end_number WorkspaceTooSmall = 18
+abbrev pub stop_number : Stop → ℕ
+stop_number CutShort = 17
+stop_number ReportFull = 18
+stop_number RunTooLong = 18
+stop_number WorkspaceTooSmall = 18
 
--- what a run holds: fields, each with its tag and its body, and at the end perhaps one that is cut short
-pub data Item : Type 0 where
-  field : ℕ → List ℕ → Item
-  rump : Item
-
-abbrev pub joined : (List ℕ → List Item) → Piece → List Item
-joined more ended = []
-joined more short = rump ∷ []
-joined more (whole tag body rest) = field tag body ∷ more rest
-
--- the items of a run, of which there are at most so many
-abbrev pub up_to : ℕ → List ℕ → List Item
-up_to zero run = []
-up_to (suc k) run = joined (up_to k) (next_piece run)
-
--- each item is a byte long and more
-abbrev pub items : List ℕ → List Item
-items run = up_to (length run) run
+abbrev pub end_number : Result (Unit {0}) Stop → ℕ
+end_number (Ok u) = 0
+end_number (Err stop) = stop_number stop
 
 -- lines written, how the run ended, the pack and the report then
 pub record Played : Type 0 where
   pub lines : ℕ
-  pub end : End
+  pub end : Result (Unit {0}) Stop
   pub pack : State
   pub report : List ℕ
 
-abbrev pub played : ℕ → End → State → List ℕ → Played
+abbrev pub played : ℕ → Result (Unit {0}) Stop → State → List ℕ → Played
 played lines end pack report = record { lines = lines; end = end; pack = pack; report = report }
 
 -- whether the report has room for one line more
@@ -62,16 +46,16 @@ reported lines report tag o =
 
 -- field by field: before each, room for its line, then whether it is whole
 unfoldable pub play : State → ℕ → List ℕ → List Item → Played
-play s lines report [] = played lines Done s report
-play s lines report (rump ∷ more) = played lines (cond (room lines report) CutShort ReportFull) s report
+play s lines report [] = played lines (Ok tt) s report
+play s lines report (rump ∷ more) = played lines (Err (cond (room lines report) CutShort ReportFull)) s report
 play s lines report (field tag body ∷ more) =
     cond (room lines report)
     (play (performed s tag body).after (lines + 1) (reported lines report tag (performed s tag body)) more)
-    (played lines ReportFull s report)
+    (played lines (Err ReportFull) s report)
 
 -- RUN: the run's length and the workspace first of all
 unfoldable pub ran : State → List ℕ → ℕ → List ℕ → Played
 ran s run workspace report =
     cond (nat_lt 262144 (length run))
-    (played 0 RunTooLong s report)
-    (cond (nat_lt workspace 32768) (played 0 WorkspaceTooSmall s report) (play s 0 report (items run)))
+    (played 0 (Err RunTooLong) s report)
+    (cond (nat_lt workspace 32768) (played 0 (Err WorkspaceTooSmall) s report) (play s 0 report (items run)))

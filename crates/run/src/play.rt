@@ -1,36 +1,33 @@
 // The run of all fields.
 ghost use Rattle.std.specs.Prelude.{◌≡◌, ◌+◌, ◌*◌, ◌≤◌, length};
 ghost use Rattle.files.specs.States.{state_of};
+ghost use Rattle.runfile.specs.Items.{items};
 ghost use Rattle.run.specs.Fields.{performed};
-ghost use Rattle.run.specs.Play.{end_number, ran, play, items, shown_tag, reported};
+ghost use Rattle.run.specs.Play.{end_number, stop_number, ran, play, shown_tag, reported};
 
 use crate::perform::{detail_of, is_known, number_of, perform};
 use device::Device;
 use files::pack::Pack;
-use runfile::field::next_field;
+use runfile::field::Fields;
 use runfile::report::write_line;
 
-// How a run ended.
+// Why a run stops before its end.
 #[derive(Clone, Copy, Debug, PartialEq, Eq)]
-pub enum End {
-    Done,
+pub enum Stop {
     CutShort,
     ReportFull,
     RunTooLong,
     WorkspaceTooSmall,
 }
 
-impl End {
-    // 0, 17 or 18.
+impl Stop {
+    // 17 or 18.
     pub fn number(self) -> u8
-        ensures { result ≡ end_number self }
+        ensures { result ≡ stop_number self }
     {
         match self {
-            End::Done => 0,
-            End::CutShort => 17,
-            End::ReportFull => 18,
-            End::RunTooLong => 18,
-            End::WorkspaceTooSmall => 18,
+            Stop::CutShort => 17,
+            Stop::ReportFull | Stop::RunTooLong | Stop::WorkspaceTooSmall => 18,
         }
     }
 }
@@ -39,7 +36,19 @@ impl End {
 #[derive(Clone, Copy)]
 pub struct Ran {
     pub lines: usize,
-    pub end: End,
+    pub end: Result<(), Stop>,
+}
+
+impl Ran {
+    // 0 where all fields have run, else the number of the stop.
+    pub fn number(self) -> u8
+        ensures { result ≡ end_number self.end }
+    {
+        match self.end {
+            Ok(()) => 0,
+            Err(stop) => stop.number(),
+        }
+    }
 }
 
 // The tag that a line shows: 0 where it is unknown.
@@ -82,29 +91,24 @@ fn run_fields<D: Device>(pack: &mut Pack<D>, run: &[u8], report: &mut [u8]) -> R
     ensures fixed { D.Device.fixed pack.new.levels.below ≡ D.Device.fixed pack.old.levels.below }
     ensures fits { 20 * result.lines ≤ length report.new }
 {
-    let mut rest = run;
     let mut lines = 0;
-    while !rest.is_empty() {
+    for field in Fields::of(run) {
         if report.len() - 20 * lines < 20 {
             return Ran {
                 lines,
-                end: End::ReportFull,
+                end: Err(Stop::ReportFull),
             };
         }
-        let Ok(Some(part)) = next_field(rest) else {
+        let Ok(part) = field else {
             return Ran {
                 lines,
-                end: End::CutShort,
+                end: Err(Stop::CutShort),
             };
         };
         report_field(pack, part.tag, part.body, lines, report);
         lines += 1;
-        rest = part.rest;
     }
-    Ran {
-        lines,
-        end: End::Done,
-    }
+    Ran { lines, end: Ok(()) }
 }
 
 // RUN. A run of more than 262,144 bytes or a workspace of fewer than 32,768 is refused before anything is looked at.
@@ -119,13 +123,13 @@ pub fn run<D: Device>(pack: &mut Pack<D>, run: &[u8], work: &mut [u8], report: &
     if run.len() > 262_144 {
         return Ran {
             lines: 0,
-            end: End::RunTooLong,
+            end: Err(Stop::RunTooLong),
         };
     }
     if work.len() < 32_768 {
         return Ran {
             lines: 0,
-            end: End::WorkspaceTooSmall,
+            end: Err(Stop::WorkspaceTooSmall),
         };
     }
     run_fields(pack, run, report)

@@ -1,12 +1,6 @@
 -- The lines of the report.
-use Rattle.std.specs.Prelude.{ℕ, ◌+◌, ◌/◌, ◌%◌, List, [], ◌∷◌, ◌++◌}
-
--- the digit of n that stands for so many
-abbrev pub digit_at : ℕ → ℕ → ℕ
-digit_at n unit = 48 + n / unit % 10
-
-abbrev pub two : ℕ → List ℕ
-two n = digit_at n 10 ∷ digit_at n 1 ∷ []
+use Rattle.std.specs.Prelude.{ℕ, List, [], ◌∷◌, ◌++◌}
+use Rattle.codec.specs.Digits.{digit_at, two}
 
 abbrev pub five : ℕ → List ℕ
 five n = digit_at n 10000 ∷ digit_at n 1000 ∷ digit_at n 100 ∷ two n

@@ -19,8 +19,7 @@ impl FieldFault {
     {
         match self {
             FieldFault::OfFile(e) => e.number(),
-            FieldFault::UnknownTag => 16,
-            FieldFault::WrongLength => 16,
+            FieldFault::UnknownTag | FieldFault::WrongLength => 16,
         }
     }
 
@@ -30,8 +29,7 @@ impl FieldFault {
     {
         match self {
             FieldFault::OfFile(e) => e.detail(),
-            FieldFault::UnknownTag => 0,
-            FieldFault::WrongLength => 0,
+            FieldFault::UnknownTag | FieldFault::WrongLength => 0,
         }
     }
 }

@@ -1,8 +1,11 @@
 // A field of a run file: a tag byte, a two-byte length, low byte first, and a body.
 ghost use Rattle.std.specs.Prelude.{◌≡◌, ℕ, ◌+◌, ◌≤◌, Bool, length, drop};
+ghost use Rattle.std.specs.Iterator.{YieldsFirstBy, item_count};
+ghost use Rattle.std.specs.Result.{result_ok};
 ghost use Rattle.codec.specs.Words.{word_at};
 ghost use Rattle.runfile.specs.Orders.{ask_of, name_at, order_of, decoded};
 ghost use Rattle.runfile.specs.Pieces.{piece_of, next_piece};
+ghost use Rattle.runfile.specs.Items.{item_of, items};
 
 use crate::fault::FieldFault;
 use codec::words::word_at;
@@ -41,6 +44,43 @@ pub fn next_field(run: &[u8]) -> Result<Option<Part<'_>>, CutShort>
     }
 }
 
+// The fields of a run, one after another. One that is cut short is the last.
+#[derive(Drop)]
+pub struct Fields<'a> {
+    rest: &'a [u8],
+}
+
+impl<'a> Fields<'a> {
+    pub fn of(run: &'a [u8]) -> Fields<'a>
+        ensures { result.rest ≡ run.entry }
+    {
+        Fields { rest: run }
+    }
+}
+
+impl<'a> Iterator for Fields<'a> {
+    type Item = Result<Part<'a>, CutShort>;
+
+    ghost next_gives = { YieldsFirstBy item_of (λ s. items s.rest.now) };
+
+    ghost remaining = { item_count (λ s. items s.rest.now) };
+
+    #[tactic(auto, using(crate::proofs::Items::items_field, crate::proofs::Items::items_short, crate::proofs::Items::items_none))]
+    fn next(&mut self) -> Option<Result<Part<'a>, CutShort>> {
+        match next_field(self.rest) {
+            Ok(None) => None,
+            Ok(Some(part)) => {
+                self.rest = part.rest;
+                Some(Ok(part))
+            }
+            Err(CutShort) => {
+                self.rest = &[];
+                Some(Err(CutShort))
+            }
+        }
+    }
+}
+
 // How many blocks a new file asks for: the largest empty, half of it, or a number from 1.
 #[derive(Clone, Copy)]
 pub enum Ask {
@@ -49,16 +89,22 @@ pub enum Ask {
     Exact(u16),
 }
 
-impl Ask {
-    // The ask that a word means, or none where the word is below -1.
-    pub fn from_word(word: i16) -> Option<Ask>
-        ensures { result ≡ ask_of word }
-    {
+// A word below -1, which means no ask.
+#[derive(Clone, Copy, Debug, PartialEq, Eq)]
+pub struct NoAsk;
+
+// The ask that a word means.
+impl TryFrom<i16> for Ask {
+    type Error = NoAsk;
+
+    ghost try_from_gives = { λ word r. result_ok r ≡ ask_of word };
+
+    fn try_from(word: i16) -> Result<Ask, NoAsk> {
         match word {
-            -1 => Some(Ask::Whole),
-            0 => Some(Ask::Half),
-            1.. => Some(Ask::Exact(word as u16)),
-            _ => None,
+            -1 => Ok(Ask::Whole),
+            0 => Ok(Ask::Half),
+            1.. => Ok(Ask::Exact(word as u16)),
+            _ => Err(NoAsk),
         }
     }
 }
@@ -131,7 +177,7 @@ pub fn decode(tag: u8, body: &[u8]) -> Result<Field<'_>, FieldFault>
         }),
         3 if body.len() >= 13 => Ok(Field::Store(Store {
             name: name_at(body, 0),
-            ask: Ask::from_word(word_at(body, 9).cast_signed()),
+            ask: Ask::try_from(word_at(body, 9).cast_signed()).ok(),
             date: word_at(body, 11),
             content: after(body, 13),
         })),

@@ -1,24 +1,19 @@
 // The lines of the report.
 ghost use Rattle.std.specs.Prelude.{◌≡◌, ℕ, ◌+◌, ◌<◌, ◌≤◌, length};
 ghost use Rattle.codec.specs.Words.{written};
-ghost use Rattle.runfile.specs.Report.{digit_at, line_of};
+ghost use Rattle.runfile.specs.Report.{line_of};
 
+use codec::digits::digit;
 use codec::words::put;
-
-fn digit(n: usize, unit: usize) -> u8
-    requires { 0 < unit }
-    ensures { result ≡ digit_at n unit }
-{
-    b'0' + (n / unit % 10) as u8
-}
 
 // A line of 20 bytes: number, tag, result and detail, with blanks between and a line feed.
 pub fn line(number: usize, tag: u8, res: u8, detail: u32) -> [u8; 20]
     ensures { result ≡ line_of number tag res detail }
 {
-    let t = usize::from(tag);
-    let d = detail as usize;
-    let s = usize::from(res);
+    let number = number as u64;
+    let t = u64::from(tag);
+    let d = u64::from(detail);
+    let s = u64::from(res);
     [
         digit(number, 10000),
         digit(number, 1000),

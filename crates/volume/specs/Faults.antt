@@ -2,6 +2,7 @@
 use Rattle.std.specs.Prelude.{ℕ, Ok, Err, Result}
 use Rattle.device.specs.declared.fault.DeviceFault.{DeviceFault}
 use Rattle.device.specs.Faults.{fault_number, fault_block}
+use Rattle.volume.specs.Rules.{rule_number}
 use Rattle.volume.specs.declared.fault.FileFault.{FileFault}
 use Rattle.volume.specs.declared.fault.FileFault.TheVariants.{OfDevice, NotSound, UnlawfulName, NoSuchFile, NameExists, Protected, NoRoom, DirectoryFull, OutOfRange, TooDeep, NotMounted, EmptyContainer, UnlawfulDate, WorkspaceTooSmall, ListingTooSmall, OutputOpen, NoOutput}
 
@@ -28,7 +29,7 @@ file_number NoOutput = 19
 -- the block that the device refused, or the rule that is broken; else 0
 abbrev pub file_detail : FileFault → ℕ
 file_detail (OfDevice e) = fault_block e
-file_detail (NotSound rule) = rule
+file_detail (NotSound rule) = rule_number rule
 file_detail UnlawfulName = 0
 file_detail NoSuchFile = 0
 file_detail NameExists = 0

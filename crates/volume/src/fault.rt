@@ -1,14 +1,15 @@
 // Why a call on a volume is refused.
 ghost use Rattle.std.specs.Prelude.{◌≡◌};
 ghost use Rattle.volume.specs.Faults.{file_number, file_detail};
-ghost use Rattle.volume.specs.declared.fault.FileFault.TheVariants.{OfDevice, UnlawfulName};
+ghost use Rattle.volume.specs.declared.fault.FileFault.TheVariants.{OfDevice, NotSound, UnlawfulName};
 
+use crate::rule::Rule;
 use device::fault::DeviceFault;
 
 #[derive(Clone, Copy, Debug, PartialEq, Eq)]
 pub enum FileFault {
     OfDevice(DeviceFault),
-    NotSound(u8),
+    NotSound(Rule),
     UnlawfulName,
     NoSuchFile,
     NameExists,
@@ -41,14 +42,11 @@ impl FileFault {
             FileFault::NoRoom => 10,
             FileFault::DirectoryFull => 11,
             FileFault::OutOfRange => 12,
-            FileFault::TooDeep => 13,
-            FileFault::NotMounted => 13,
+            FileFault::TooDeep | FileFault::NotMounted => 13,
             FileFault::EmptyContainer => 14,
             FileFault::UnlawfulDate => 15,
-            FileFault::WorkspaceTooSmall => 18,
-            FileFault::ListingTooSmall => 18,
-            FileFault::OutputOpen => 19,
-            FileFault::NoOutput => 19,
+            FileFault::WorkspaceTooSmall | FileFault::ListingTooSmall => 18,
+            FileFault::OutputOpen | FileFault::NoOutput => 19,
         }
     }
 
@@ -58,22 +56,8 @@ impl FileFault {
     {
         match self {
             FileFault::OfDevice(e) => e.block(),
-            FileFault::NotSound(rule) => rule as u32,
-            FileFault::UnlawfulName => 0,
-            FileFault::NoSuchFile => 0,
-            FileFault::NameExists => 0,
-            FileFault::Protected => 0,
-            FileFault::NoRoom => 0,
-            FileFault::DirectoryFull => 0,
-            FileFault::OutOfRange => 0,
-            FileFault::TooDeep => 0,
-            FileFault::NotMounted => 0,
-            FileFault::EmptyContainer => 0,
-            FileFault::UnlawfulDate => 0,
-            FileFault::WorkspaceTooSmall => 0,
-            FileFault::ListingTooSmall => 0,
-            FileFault::OutputOpen => 0,
-            FileFault::NoOutput => 0,
+            FileFault::NotSound(rule) => u32::from(rule.number()),
+            _ => 0,
         }
     }
 }
@@ -83,6 +67,14 @@ impl From<DeviceFault> for FileFault {
 
     fn from(e: DeviceFault) -> FileFault {
         FileFault::OfDevice(e)
+    }
+}
+
+impl From<Rule> for FileFault {
+    ghost from_gives = { λ e r. r ≡ NotSound e };
+
+    fn from(e: Rule) -> FileFault {
+        FileFault::NotSound(e)
     }
 }
 

@@ -6,5 +6,6 @@ pub mod fault;
 mod home;
 pub mod initial;
 pub mod level;
+pub mod rule;
 pub mod segment;
 pub mod transfer;
