@@ -1,4 +1,5 @@
 pub mod Walking
+pub mod Starts
 pub mod Finding
 pub mod Tests
 pub mod Counting

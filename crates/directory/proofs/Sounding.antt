@@ -1,8 +1,13 @@
 -- What the rules say of the chain of a sound directory.
-use Rattle.std.proofs.Common.{◌≡◌, ℕ, ◌+◌, ◌*◌, ◌<◌, ◌≤◌, Bool, true, false, cond, leb, List, [], length, Some, None, Option, unwrap_or, refl, ap, ◌∙◌, arith}
+use Rattle.std.proofs.Common.{◌≡◌, ℕ, ◌+◌, ◌*◌, ◌<◌, ◌≤◌, Bool, true, false, cond, leb, List, [], length, Some, None, Option, unwrap_or, sym, subst, refl, ap, ◌∙◌, arith}
+use Rattle.std.specs.Option.{option_map, IsSome}
 use Rattle.std.specs.List.{AllByRecursion}
+use Rattle.std.specs.Coded.{le_prop}
+use Rattle.std.proofs.Math.Logic.{∥∥₁_elim}
+use Rattle.arrayvec.specs.ArrayVec.{ArrayVec}
 use Rattle.std.proofs.lemmas.Bool.Decides.{nat_tests}
 use Rattle.codec.specs.Words.{word_at}
+use Rattle.segment.proofs.Rule4 as four
 use Rattle.segment.specs.Chains.{next_of, chain_from}
 use Rattle.segment.specs.Directories.{chain_of}
 use Rattle.directory.specs.Walks.{spot, Readable, OnWay}
@@ -16,6 +21,10 @@ use Rattle.directory.proofs.Breaking.{in_range}
 both : (t : Bool) (a b : ℕ) → 0 < b → cond t a b ≡ 0 → (t ≡ true) × (a ≡ 0)
 both true a b l e = (refl, e)
 both false a b l e = absurd (omega arith)
+
+pub chain_is : (dir ks : List ℕ) → Some ks ≡ chain_from (word_at dir 4) (word_at dir 4) (next_of dir) 1 → ks ≡ chain_of dir
+unfolding chain_of
+chain_is dir ks q = ap (λ (o : Option (List ℕ)). unwrap_or o []) q
 
 module _ (dir : List ℕ) (s : SoundBytes dir) where
   h : ℕ
@@ -47,9 +56,30 @@ module _ (dir : List ℕ) (s : SoundBytes dir) where
     pub on_chain : AllByRecursion (λ k. (1 ≤ k) × (k ≤ word_at dir 4)) ks → length ks ≤ 31 → OnWay (word_at dir 6) dir ks (spot 0 0 (6 + 2 * word_at dir 0))
     on_chain a l = on_whole (word_at dir 6) dir ks (6 + 2 * word_at dir 0) (readable a) l (omega (arith, s.few))
 
-    pub chain_is : ks ≡ chain_of dir
-    unfolding chain_of
-    chain_is = ap (λ (o : Option (List ℕ)). unwrap_or o []) q
-
   pub no_chain : None ≡ chain_from (word_at dir 4) (word_at dir 4) (next_of dir) 1 → ⊥
   no_chain q = let z : ◌≡◌ {A = ℕ} 4 0 = ap (broken_by dir s.blocks s.output) q ∙ used.1 in omega arith
+
+  -- the chain that is found
+  found : (ks : List ℕ) × (Some ks ≡ chain_from (word_at dir 4) (word_at dir 4) (next_of dir) 1)
+  found = go (chain_from (word_at dir 4) (word_at dir 4) (next_of dir) 1) refl
+    where
+      go : (o : Option (List ℕ)) → o ≡ chain_from (word_at dir 4) (word_at dir 4) (next_of dir) 1
+          → (ks : List ℕ) × (Some ks ≡ chain_from (word_at dir 4) (word_at dir 4) (next_of dir) 1)
+      go (Some ks) q = (ks, q)
+      go None q = absurd (no_chain q)
+
+  found-few : length found.0 ≤ 31
+  found-few = omega (arith, (four.along (word_at dir 4) (next_of dir) (word_at dir 4) 1 found.0 (sym found.1)).long, highest, s.few)
+
+  pub chain_few : length (chain_of dir) ≤ 31
+  chain_few = subst (λ (ks : List ℕ). length ks ≤ 31) (chain_is dir found.0 found.1) found-few
+
+  pub chain_way : OnWay (word_at dir 6) dir (chain_of dir) (spot 0 0 (6 + 2 * word_at dir 0))
+  chain_way =
+      subst (λ (ks : List ℕ). OnWay (word_at dir 6) dir ks (spot 0 0 (6 + 2 * word_at dir 0))) (chain_is dir found.0 found.1)
+      (on_chain found.0 found.1 (four.chain_inside (word_at dir 4) (next_of dir) (word_at dir 4) 1 found.0 (sym found.1)) found-few)
+
+-- so its chain is found
+pub chain_there : (dir : List ℕ) → ∥ SoundBytes dir ∥₁ → (o : Option (ArrayVec ℕ)) → option_map (λ c. c.items) o ≡ chain_from (word_at dir 4) (word_at dir 4) (next_of dir) 1 → IsSome o
+chain_there dir s (Some c) q = refl
+chain_there dir s None q = absurd (let z : 1 ≤ 0 = ∥∥₁_elim s le_prop (λ t. absurd (no_chain dir t q)) in omega arith)

@@ -50,7 +50,7 @@ entries_read x dir k = go (segment_entries x (segment_at dir k))
 injected : {A : Type 0} {x y : A} → ◌≡◌ {A = Option A} (Some x) (Some y) → x ≡ y
 injected q = cc
 
-module _ (x : ℕ) (dir ks : List ℕ) (p i at : ℕ) (w : OnWay x dir ks (spot p i at)) (h : p < length ks) where
+module _ {x : ℕ} {dir ks : List ℕ} {p i at : ℕ} (w : OnWay x dir ks (spot p i at)) (h : p < length ks) where
   abbrev pub k : ℕ
   k = get_or ks p 0
 
@@ -82,7 +82,10 @@ module _ (x : ℕ) (dir ks : List ℕ) (p i at : ℕ) (w : OnWay x dir ks (spot 
   chain_unrolled j b = ap (chained_from x dir p j b) (drop_more ks p 0 h)
 
   -- at an entry
-  module _ (a : ℕ) (s : a ≡ entry_start x i) (g : word_at seg a ≡ 2048 → ⊥) where
+  module _ {a v : ℕ} {bs : List ℕ} (s : a ≡ entry_start x i) (b : bs ≡ segment_at dir (get_or ks p 0)) (m : v ≡ word_at bs a) (n : v ≡ 2048 → ⊥) where
+    g : word_at seg a ≡ 2048 → ⊥
+    g q = n (m ∙ ap (λ (z : List ℕ). word_at z a) b ∙ q)
+
     pub goes_on : i < length es
     goes_on = go (cases_lt i (length es))
       where
@@ -132,16 +135,19 @@ module _ (x : ℕ) (dir ks : List ℕ) (p i at : ℕ) (w : OnWay x dir ks (spot 
     fits = omega (arith, w.bound, ap length first-left)
 
     -- what the code has of the entry
-    module _ (st : Status) (nm : Name) (len dt : ℕ) (s₁ : Some st ≡ status_in (drop a seg)) (n₁ : nm ≡ name_in (drop a seg)) (l₁ : len ≡ length_in (drop a seg))
-        (d₁ : dt ≡ date_in (drop a seg)) (fit : len ≤ 65535) where
+    module _ {st : Status} {nm : Name} {len dt : ℕ} (s₁ : Some st ≡ status_in (drop a bs)) (n₁ : nm ≡ name_in (drop a bs)) (l₁ : len ≡ length_in (drop a bs))
+        (d₁ : dt ≡ date_in (drop a bs)) (fit : len ≤ 65535) where
+      behind : drop a bs ≡ drop a seg
+      behind = ap (drop a) b
+
       long : len ≡ e.length
-      long = l₁ ∙ fields.length
+      long = l₁ ∙ ap length_in behind ∙ fields.length
 
       same : ◌≡◌ {A = Placed} (placed k i at e) (record { status = st; name = nm; length = len; date = dt; segment = k; index = i; start = at })
       same =
-          let p₀ : e.status ≡ st = injected (sym fields.status ∙ sym s₁) in
-          let p₁ : e.name ≡ nm = sym (n₁ ∙ fields.name) in
-          let p₂ : e.date ≡ dt = sym (d₁ ∙ fields.date) in
+          let p₀ : e.status ≡ st = injected (sym fields.status ∙ sym (s₁ ∙ ap status_in behind)) in
+          let p₁ : e.name ≡ nm = sym (n₁ ∙ ap name_in behind ∙ fields.name) in
+          let p₂ : e.date ≡ dt = sym (d₁ ∙ ap date_in behind ∙ fields.date) in
           λ j. record { status = p₀ j; name = p₁ j; length = sym long j; date = p₂ j; segment = k; index = i; start = at }
 
       pub stepped : (left x dir ks (spot p i at)
@@ -157,11 +163,14 @@ module _ (x : ℕ) (dir ks : List ℕ) (p i at : ℕ) (w : OnWay x dir ks (spot 
             ∙ ap (λ (z : ℕ). (p, record { status = st; name = nm; length = len; date = dt; segment = k; index = i; start = at }) ∷ chained x dir ks (spot p (i + 1) (at + z))) (sym long),
       )
 
-    pub not_none : None ≡ status_in (drop a seg) → ⊥
-    not_none q = let z : ◌≡◌ {A = Option Status} None (Some e.status) = q ∙ fields.status in let y : ◌≡◌ {A = ℕ} 0 1 = cc in omega arith
+    pub not_none : None ≡ status_in (drop a bs) → ⊥
+    not_none q = let z : ◌≡◌ {A = Option Status} None (Some e.status) = q ∙ ap (λ (z : List ℕ). status_in (drop a z)) b ∙ fields.status in let y : ◌≡◌ {A = ℕ} 0 1 = cc in omega arith
 
   -- at the end of a segment
-  module _ (a : ℕ) (s : a ≡ entry_start x i) (g : word_at seg a ≡ 2048) where
+  module _ {a v : ℕ} {bs : List ℕ} (s : a ≡ entry_start x i) (b : bs ≡ segment_at dir (get_or ks p 0)) (m : v ≡ word_at bs a) (n : v ≡ 2048) where
+    ends : word_at seg a ≡ 2048
+    ends = sym (m ∙ ap (λ (z : List ℕ). word_at z a) b) ∙ n
+
     over : length es ≤ i
     over = go (cases_lt i (length es))
       where
@@ -170,7 +179,7 @@ module _ (x : ℕ) (dir ks : List ℕ) (p i at : ℕ) (w : OnWay x dir ks (spot 
         go (inl l) =
             absurd ((front (capacity_of x - i) x (drop (entry_start x i) seg) (get_or es i no_entry) (drop (i + 1) es)
             (segment_walked x seg es read i (w.inside h) ∙ ap Some (drop_more es i no_entry l))).goes_on
-            (ap (λ (z : ℕ). word_at (drop z seg) 0) (sym s) ∙ word_here seg a ∙ g))
+            (ap (λ (z : ℕ). word_at (drop z seg) 0) (sym s) ∙ word_here seg a ∙ ends))
 
     pub next_left : left x dir ks (spot (p + 1) 0 at) ≡ left x dir ks (spot p i at)
     unfolding placed_in blocks_of

@@ -1,5 +1,6 @@
 -- What is asked of entries in their places.
 use Rattle.std.specs.Prelude.{ℕ, ◌+◌, Bool, true, false, cond, not, ◌&&◌, ◌||◌, List, [], ◌∷◌, Some, None, Option, ◌==◌, nat_lt}
+use Rattle.std.specs.List.{list_all, find}
 use Rattle.codec.specs.declared.name.Name.{Name}
 use Rattle.volume.specs.declared.entry.Status.{Status}
 use Rattle.volume.specs.declared.entry.Status.TheVariants.{Tentative, Empty, Permanent, Protected}
@@ -33,8 +34,7 @@ is_named n p = is_file p && same_name n p.name
 
 -- the first file of a name
 unfoldable pub first_named : Name → List Placed → Option Placed
-first_named n [] = None
-first_named n (p ∷ ps) = cond (is_named n p) (Some p) (first_named n ps)
+first_named n ps = find (is_named n) ps
 
 -- how many are tentative
 unfoldable pub tentatives : List Placed → ℕ
@@ -51,8 +51,7 @@ abbrev pub well_named : Placed → Bool
 well_named p = not (is_file p) || (nat_lt p.name.first 64000 && (nat_lt p.name.second 64000 && nat_lt p.name.kind 64000))
 
 unfoldable pub all_well_named : List Placed → Bool
-all_well_named [] = true
-all_well_named (p ∷ ps) = well_named p && all_well_named ps
+all_well_named ps = list_all well_named ps
 
 abbrev pub none : Option Placed → Bool
 none None = true

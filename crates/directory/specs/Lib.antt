@@ -1,4 +1,5 @@
 pub mod Walks
+pub mod Entries
 pub mod Finds
 pub mod Rules
 pub mod Sounds

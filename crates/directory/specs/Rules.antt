@@ -1,5 +1,6 @@
 -- The rules of a sound level, on the bytes of its directory: which is the first that is broken.
-use Rattle.std.specs.Prelude.{ℕ, ◌+◌, ◌*◌, ◌%◌, Bool, true, false, cond, not, ◌&&◌, ◌||◌, List, [], ◌∷◌, length, is_some, Some, None, Option, ◌==◌, nat_le, slice_index}
+use Rattle.std.specs.Prelude.{ℕ, ◌+◌, ◌*◌, ◌%◌, Bool, false, cond, not, ◌&&◌, List, [], ◌∷◌, length, is_some, Some, None, Option, ◌==◌, nat_le, slice_index}
+use Rattle.std.specs.List.{list_all, list_any}
 use Rattle.codec.specs.Words.{word_at}
 use Rattle.volume.specs.declared.entry.Entry.{Entry}
 use Rattle.device.specs.Blocks.{any}
@@ -13,13 +14,11 @@ use Rattle.directory.specs.Finds.{tentatives, all_well_named, all_apart}
 
 -- whether a test holds of each
 abbrev pub every : {X : Type 0} → (X → Bool) → List X → Bool
-every p [] = true
-every p (x ∷ xs) = p x && every p xs
+every p xs = list_all p xs
 
 -- whether k is met
 abbrev pub meets : ℕ → List ℕ → Bool
-meets k [] = false
-meets k (j ∷ js) = j == k || meets k js
+meets k ks = list_any (λ j. j == k) ks
 
 -- the entries of a chain whose first starts at a block
 abbrev pub all_placed : ℕ → List ℕ → List ℕ → ℕ → List Placed

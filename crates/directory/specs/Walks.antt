@@ -1,6 +1,8 @@
 -- The entries of a directory in chain order, each in its place.
 use Rattle.std.specs.Prelude.{◌≡◌, ℕ, ◌+◌, ◌*◌, ◌<◌, ◌≤◌, true, List, [], ◌∷◌, ◌++◌, map, length, drop, is_some, Some, None, Option, slice_index}
 use Rattle.std.specs.List.{AllByRecursion}
+use Rattle.std.specs.Coded.{×_prop, Unit-prop, le_prop}
+use mathlib.Core.Bool.{Bool-set}
 use Rattle.volume.specs.declared.entry.Entry.{Entry}
 use Rattle.segment.specs.Segments.{segment_entries}
 use Rattle.segment.specs.Chains.{segment_at}
@@ -50,11 +52,34 @@ chained x dir ks s = chained_from x dir s.place s.index s.start (drop s.place ks
 abbrev pub Readable : ℕ → List ℕ → ℕ → Type 0
 Readable x dir k = (1 ≤ k) × (1024 * k ≤ length dir) × (is_some (segment_entries x (segment_at dir k)) ≡ true)
 
+-- segment k is in the directory
+abbrev pub InDirectory : List ℕ → ℕ → Type 0
+InDirectory dir k = (1 ≤ k) × (1024 * k ≤ length dir)
+
 -- a spot from which the chain can be walked; starts stay far below 2 ^ 32
 pub record OnWay (x : ℕ) (dir ks : List ℕ) (s : Spot) : Type 0 where
   pub all : AllByRecursion (Readable x dir) ks
   pub inside : s.place < length ks → s.index ≤ length (entries_at x dir (slice_index ks s.place))
   pub bound : s.start + 65535 * length (left x dir ks s) ≤ 200000000
+
+-- each of these facts has one proof at most, so that it may be a ghost field
+pub All-prop : (P : ℕ → Type 0) → ((k : ℕ) → IsProp (P k)) → (ks : List ℕ) → IsProp (AllByRecursion P ks)
+All-prop P f [] = Unit-prop
+All-prop P f (k ∷ ks) = ×_prop (f k) (All-prop P f ks)
+
+pub InDirectory-prop : (dir : List ℕ) (k : ℕ) → IsProp (InDirectory dir k)
+InDirectory-prop dir k = ×_prop le_prop le_prop
+
+pub Readable-prop : (x : ℕ) (dir : List ℕ) (k : ℕ) → IsProp (Readable x dir k)
+Readable-prop x dir k v w = λ j. (le_prop v.0 w.0 j, le_prop v.1 w.1 j, Bool-set (is_some (segment_entries x (segment_at dir k))) true v.2 w.2 j)
+
+pub OnWay-prop : (x : ℕ) (dir ks : List ℕ) (s : Spot) → IsProp (OnWay x dir ks s)
+OnWay-prop x dir ks s v w =
+    λ j. record {
+      all = All-prop (Readable x dir) (Readable-prop x dir) ks v.all w.all j;
+      inside = λ h. le_prop (v.inside h) (w.inside h) j;
+      bound = le_prop v.bound w.bound j;
+    }
 
 -- one step: the first of what is left, and the spot behind it
 abbrev pub Steps : ℕ → List ℕ → List ℕ → Spot → Option (Placed × Spot) → Type 0

@@ -2,64 +2,58 @@
 ghost use Rattle.std.specs.Prelude.{◌≡◌, ℕ, ◌+◌, ◌*◌, ◌<◌, ◌≤◌, Bool, true, length};
 ghost use Rattle.std.specs.List.{AllByRecursion};
 ghost use Rattle.codec.specs.Words.{word_at};
-ghost use Rattle.segment.specs.Chains.{segment_at, order_of};
+ghost use Rattle.volume.specs.Rules.{told};
+ghost use Rattle.segment.specs.Chains.{segment_at};
 ghost use Rattle.segment.specs.Directories.{entries_at};
-ghost use Rattle.directory.specs.Walks.{spot, blocks_of, Readable};
+ghost use Rattle.directory.specs.Walks.{spot, blocks_of, Readable, All-prop, Readable-prop, InDirectory, InDirectory-prop};
 ghost use Rattle.directory.specs.Rules.{every, same_extra, extra_sound, lawful_at, same_bytes, two_stand, meets, pending_stands, open_stands, all_placed, contiguous_from, broken_late, broken_along, broken_rule, in_use};
 
-use crate::find::{all_apart, all_well_named, count_tentative, sum_blocks};
 use crate::pending::Pending;
 use crate::placed::Spot;
+use crate::walk::Entries;
 use codec::words::word_at;
-use segment::chain::{Chain, chain_of, segment_at};
+use segment::chain::{chain_of, segment_at};
 use segment::walk::{count_entries, entry_start};
+use volume::rule::Rule;
+
+// The segments of a chain, all in the directory, the extra bytes to an entry, and the block at which the first entry starts.
+#[derive(Clone, Copy)]
+struct Segments<'a> {
+    dir: &'a [u8],
+    order: &'a [usize],
+    extra: u16,
+    first: u32,
+    ghost inside: { AllByRecursion (InDirectory dir.now) order.now } by { All-prop (InDirectory dir.now) (InDirectory-prop dir.now) order.now },
+    ghost few: { length order.now ≤ 31 },
+    ghost low: { first ≤ 65535 },
+}
+
+// The same, where the entries of each segment are lawful.
+#[derive(Clone, Copy)]
+struct Lawful<'a> {
+    dir: &'a [u8],
+    order: &'a [usize],
+    extra: u16,
+    first: u32,
+    ghost readable: { AllByRecursion (Readable extra dir.now) order.now } by { All-prop (Readable extra dir.now) (Readable-prop extra dir.now) order.now },
+    ghost few: { length order.now ≤ 31 },
+    ghost low: { first ≤ 65535 },
+    ghost short: { extra ≤ 64 },
+}
 
 // Whether a segment has so many extra bytes to an entry.
 fn has_extra(dir: &[u8], k: usize, extra: u16) -> bool
-    requires { (1 ≤ k) × (1024 * k ≤ length dir.now) }
+    requires { InDirectory dir.now k }
     ensures { result ≡ same_extra extra dir.now k }
 {
     word_at(segment_at(dir, k), 6) == extra
 }
 
-fn same_extra(dir: &[u8], order: &[usize], extra: u16) -> bool
-    requires { AllByRecursion (λ k. (1 ≤ k) × (1024 * k ≤ length dir.now)) order.now }
-    ensures { result ≡ every (same_extra extra dir.now) order.now }
-{
-    for k in order {
-        if !has_extra(dir, *k, extra) {
-            return false;
-        }
-    }
-    true
-}
-
-// Rule 5.
-fn extra_sound(dir: &[u8], order: &[usize], extra: u16) -> bool
-    requires { AllByRecursion (λ k. (1 ≤ k) × (1024 * k ≤ length dir.now)) order.now }
-    ensures { result ≡ extra_sound extra dir.now order.now }
-{
-    extra % 2 == 0 && extra <= 64 && same_extra(dir, order, extra)
-}
-
 fn is_lawful(dir: &[u8], k: usize, extra: u16) -> bool
-    requires { (1 ≤ k) × (1024 * k ≤ length dir.now) }
+    requires { InDirectory dir.now k }
     ensures { result ≡ lawful_at extra dir.now k }
 {
     count_entries(segment_at(dir, k), extra).is_some()
-}
-
-// Rule 6, segment by segment.
-fn all_lawful(dir: &[u8], order: &[usize], extra: u16) -> bool
-    requires { AllByRecursion (λ k. (1 ≤ k) × (1024 * k ≤ length dir.now)) order.now }
-    ensures { result ≡ every (lawful_at extra dir.now) order.now }
-{
-    for k in order {
-        if !is_lawful(dir, *k, extra) {
-            return false;
-        }
-    }
-    true
 }
 
 // The blocks of the entries of a segment together.
@@ -68,31 +62,7 @@ fn blocks_in(dir: &[u8], k: usize, extra: u16) -> u32
     ensures sum { result ≡ blocks_of (entries_at extra dir.now k) }
     ensures bound { result ≤ 4718520 }
 {
-    sum_blocks(
-        dir,
-        &[k],
-        extra,
-        Spot {
-            place: 0,
-            index: 0,
-            start: 0,
-        },
-    )
-}
-
-// Rule 7.
-fn contiguous(dir: &[u8], order: &[usize], extra: u16, first: u32, blocks: u32) -> bool
-    requires { (AllByRecursion (Readable extra dir.now) order.now) × ((length order.now ≤ 31) × (first ≤ 65535)) }
-    ensures { result ≡ contiguous_from extra dir.now blocks first order.now }
-{
-    let mut at = first;
-    for k in order {
-        if word_at(segment_at(dir, *k), 8) as u32 != at {
-            return false;
-        }
-        at += blocks_in(dir, *k, extra);
-    }
-    at == blocks
+    Entries::new(dir, &[k], extra, first_spot(0)).sum_blocks()
 }
 
 // Whether bytes from a place on are the first of others.
@@ -100,24 +70,7 @@ fn same_bytes(bytes: &[u8], at: usize, n: usize, others: &[u8]) -> bool
     requires { (at + n ≤ length bytes.now) × (n ≤ length others.now) }
     ensures { result ≡ same_bytes bytes.now at n others.now }
 {
-    for i in 0..n {
-        if bytes[at + i] != others[i] {
-            return false;
-        }
-    }
-    true
-}
-
-// Whether a chain meets a segment.
-fn meets(order: &[usize], k: usize) -> bool
-    ensures { result ≡ meets k order.now }
-{
-    for j in order {
-        if *j == k {
-            return true;
-        }
-    }
-    false
+    bytes[at..at + n] == others[..n]
 }
 
 // Whether two entries of a segment are those of an open output.
@@ -139,34 +92,6 @@ fn entries_stand(segment: &[u8], extra: u16, index: usize, entries: &[u8]) -> bo
     )
 }
 
-// Rule 6 of an open output.
-fn pending_stands(dir: &[u8], order: &[usize], extra: u16, output: Pending) -> bool
-    requires { (AllByRecursion (Readable extra dir.now) order.now) × (extra ≤ 64) }
-    ensures { result ≡ pending_stands extra dir.now order.now output }
-{
-    if !meets(order, output.segment) {
-        return false;
-    }
-    entries_stand(
-        segment_at(dir, output.segment),
-        extra,
-        output.index,
-        &output.entries,
-    )
-}
-
-// Rule 6 of the tentative entries: none but that of an open output.
-fn open_stands(dir: &[u8], order: &[usize], extra: u16, first: u32, output: Option<Pending>) -> bool
-    requires { (AllByRecursion (Readable extra dir.now) order.now) × ((extra ≤ 64) × ((length order.now ≤ 31) × (first ≤ 65535))) }
-    ensures { result ≡ open_stands extra dir.now order.now output (all_placed extra dir.now order.now first) }
-{
-    let count = count_tentative(dir, order, extra, first_spot(first));
-    match output {
-        None => count == 0,
-        Some(p) => count == 1 && pending_stands(dir, order, extra, p),
-    }
-}
-
 // The spot at which a chain begins.
 pub fn first_spot(start: u32) -> Spot
     ensures { result ≡ spot 0 0 start }
@@ -178,52 +103,116 @@ pub fn first_spot(start: u32) -> Spot
     }
 }
 
-// The first broken rule of 6 to 9, or 0, once each segment of the chain is lawful.
-fn broken_late(
-    dir: &[u8],
-    order: &[usize],
-    extra: u16,
-    first: u32,
-    blocks: u32,
-    output: Option<Pending>,
-) -> u8
-    requires { (AllByRecursion (Readable extra dir.now) order.now) × ((extra ≤ 64) × ((length order.now ≤ 31) × (first ≤ 65535))) }
-    ensures { result ≡ broken_late extra dir.now blocks first output order.now }
-{
-    if !open_stands(dir, order, extra, first, output) {
-        return 6;
+impl<'a> Segments<'a> {
+    fn same_extra(self) -> bool
+        ensures { result ≡ every (same_extra self.entry.extra self.entry.dir.now) self.entry.order.now }
+    {
+        self.order
+            .iter()
+            .all(|k| has_extra(self.dir, *k, self.extra))
     }
-    if !contiguous(dir, order, extra, first, blocks) {
-        return 7;
+
+    // Rule 5.
+    fn extra_sound(self) -> bool
+        ensures { result ≡ extra_sound self.entry.extra self.entry.dir.now self.entry.order.now }
+    {
+        self.extra % 2 == 0 && self.extra <= 64 && self.same_extra()
     }
-    if !all_well_named(dir, order, extra, first_spot(first)) {
-        return 8;
+
+    // Rule 6, segment by segment.
+    fn all_lawful(self) -> bool
+        ensures { result ≡ every (lawful_at self.entry.extra self.entry.dir.now) self.entry.order.now }
+    {
+        self.order
+            .iter()
+            .all(|k| is_lawful(self.dir, *k, self.extra))
     }
-    if !all_apart(dir, order, extra, first_spot(first)) {
-        return 9;
+
+    // Rules 5 to 9, in their order.
+    fn check(self, blocks: u32, output: Option<Pending>) -> Result<(), Rule>
+        ensures { told result ≡ broken_along self.entry.extra self.entry.dir.now blocks self.entry.first output self.entry.order.now }
+    {
+        if !self.extra_sound() {
+            return Err(Rule::ExtraBytes);
+        }
+        if !self.all_lawful() {
+            return Err(Rule::Entries);
+        }
+        let lawful = Lawful {
+            dir: self.dir,
+            order: self.order,
+            extra: self.extra,
+            first: self.first,
+        };
+        lawful.check(blocks, output)
     }
-    0
 }
 
-// The first broken rule of 5 to 9, or 0, along a chain.
-fn broken_along(
-    dir: &[u8],
-    order: &[usize],
-    extra: u16,
-    first: u32,
-    blocks: u32,
-    output: Option<Pending>,
-) -> u8
-    requires { (AllByRecursion (λ k. (1 ≤ k) × (1024 * k ≤ length dir.now)) order.now) × ((length order.now ≤ 31) × (first ≤ 65535)) }
-    ensures { result ≡ broken_along extra dir.now blocks first output order.now }
-{
-    if !extra_sound(dir, order, extra) {
-        return 5;
+impl<'a> Lawful<'a> {
+    ghost use Rattle.directory.specs.Entries.{entries_left};
+
+    fn entries(self) -> Entries<'a>
+        ensures { entries_left result ≡ all_placed self.entry.extra self.entry.dir.now self.entry.order.now self.entry.first }
+    {
+        Entries::new(self.dir, self.order, self.extra, first_spot(self.first))
     }
-    if !all_lawful(dir, order, extra) {
-        return 6;
+
+    // Rule 6 of an open output.
+    fn pending_stands(self, output: Pending) -> bool
+        ensures { result ≡ pending_stands self.entry.extra self.entry.dir.now self.entry.order.now output }
+    {
+        self.order.contains(&output.segment)
+            && entries_stand(
+                segment_at(self.dir, output.segment),
+                self.extra,
+                output.index,
+                &output.entries,
+            )
     }
-    broken_late(dir, order, extra, first, blocks, output)
+
+    // Rule 6 of the tentative entries: none but that of an open output.
+    fn open_stands(self, output: Option<Pending>) -> bool
+        ensures { result ≡ open_stands self.entry.extra self.entry.dir.now self.entry.order.now output (all_placed self.entry.extra self.entry.dir.now self.entry.order.now self.entry.first) }
+    {
+        let count = self.entries().count_tentative();
+        match output {
+            None => count == 0,
+            Some(p) => count == 1 && self.pending_stands(p),
+        }
+    }
+
+    // Rule 7.
+    fn contiguous(self, blocks: u32) -> bool
+        ensures { result ≡ contiguous_from self.entry.extra self.entry.dir.now blocks self.entry.first self.entry.order.now }
+    {
+        let mut at = self.first;
+        for k in self.order {
+            if word_at(segment_at(self.dir, *k), 8) as u32 != at {
+                return false;
+            }
+            at += blocks_in(self.dir, *k, self.extra);
+        }
+        at == blocks
+    }
+
+    // Rules 6 (of the tentative entries) to 9, in their order.
+    fn check(self, blocks: u32, output: Option<Pending>) -> Result<(), Rule>
+        ensures { told result ≡ broken_late self.entry.extra self.entry.dir.now blocks self.entry.first output self.entry.order.now }
+    {
+        if !self.open_stands(output) {
+            return Err(Rule::Entries);
+        }
+        if !self.contiguous(blocks) {
+            return Err(Rule::Contiguous);
+        }
+        if !self.entries().all_well_named() {
+            return Err(Rule::Names);
+        }
+        if !self.entries().all_apart() {
+            return Err(Rule::NameTwice);
+        }
+        Ok(())
+    }
 }
 
 // Rule 3.
@@ -233,34 +222,24 @@ fn in_use(highest: u16, total: u16) -> bool
     1 <= highest && highest <= total
 }
 
-// The segments of a chain. For our other crates: the chain was found in a directory.
-pub fn in_order(chain: &Chain) -> &[usize]
-    requires { chain.now.count ≤ 31 }
-    ensures { result.now ≡ order_of chain.now }
-{
-    &chain.order[0..chain.count]
-}
-
-// The first broken rule of 3 to 9, or 0. For our other crates: the caller has loaded the directory, and so checked rules 1 and 2.
-pub fn broken_rule(dir: &[u8], blocks: u16, output: Option<Pending>) -> u8
+// Rules 3 to 9, in their order. For our other crates: the caller has loaded the directory, and so checked rules 1 and 2.
+pub fn check_rules(dir: &[u8], blocks: u16, output: Option<Pending>) -> Result<(), Rule>
     requires { (1024 ≤ length dir.now) × ((word_at dir.now 0 ≤ 31) × (1024 * word_at dir.now 0 ≤ length dir.now)) }
-    ensures { result ≡ broken_rule dir.now blocks output }
+    ensures { told result ≡ broken_rule dir.now blocks output }
 {
     let total = word_at(dir, 0);
     let highest = word_at(dir, 4);
     if !in_use(highest, total) {
-        return 3;
+        return Err(Rule::SegmentsInUse);
     }
     let Some(chain) = chain_of(dir, highest as usize) else {
-        return 4;
+        return Err(Rule::Chain);
     };
-    let first = 6 + 2 * total as u32;
-    broken_along(
+    let segments = Segments {
         dir,
-        in_order(&chain),
-        word_at(dir, 6),
-        first,
-        blocks as u32,
-        output,
-    )
+        order: chain.as_slice(),
+        extra: word_at(dir, 6),
+        first: 6 + 2 * total as u32,
+    };
+    segments.check(blocks as u32, output)
 }

@@ -2,7 +2,7 @@
 ghost use Rattle.std.specs.Prelude.{◌≡◌, ◌+◌, ◌*◌, ◌<◌, ◌≤◌, length, Some};
 ghost use Rattle.volume.specs.declared.entry.Entry.{Entry};
 ghost use Rattle.segment.specs.Entries.{entry_of};
-ghost use Rattle.directory.specs.Walks.{placed, spot, OnWay, Steps, ChainSteps};
+ghost use Rattle.directory.specs.Walks.{placed, spot, left, chained, OnWay, OnWay-prop, Steps, ChainSteps};
 
 use crate::placed::{Placed, Spot};
 use codec::words::word_at;
@@ -13,40 +13,114 @@ use segment::walk::entry_start;
 // The word that ends a segment.
 const END: u16 = 2048;
 
-// The next entry from a spot on, and the spot behind it, or none at the end of the chain. For our other crates: the caller
-// has found the segments of the chain lawful.
-pub fn next_entry(dir: &[u8], order: &[usize], extra: u16, from: Spot) -> Option<(Placed, Spot)>
-    requires { OnWay extra dir.now order.now from }
-    ensures step { Steps extra dir.now order.now from result }
-    ensures chain { ChainSteps extra dir.now order.now from result }
-{
-    let mut place = from.place;
-    let mut index = from.index;
-    while place < order.len() {
-        let number = order[place];
-        let segment = segment_at(dir, number);
-        let at = entry_start(index, extra);
-        if word_at(segment, at) != END {
-            let status = status_at(segment, at)?;
-            let length = length_at(segment, at);
-            let entry = Placed {
-                status,
-                name: name_at(segment, at),
-                length,
-                date: date_at(segment, at),
-                segment: number,
-                index,
-                start: from.start,
-            };
-            let next = Spot {
-                place,
-                index: index + 1,
-                start: from.start + length as u32,
-            };
-            return Some((entry, next));
+// The entries of a chain from a spot on, in chain order.
+#[derive(Clone, Copy)]
+pub struct Entries<'a> {
+    dir: &'a [u8],
+    order: &'a [usize],
+    extra: u16,
+    at: Spot,
+    pub ghost way: { OnWay extra dir.now order.now at } by { OnWay-prop extra dir.now order.now at },
+}
+
+impl<'a> Entries<'a> {
+    ghost use Rattle.directory.specs.Entries.{entries_left, placed_left};
+
+    // For our other crates: the caller has found the segments of the chain lawful.
+    pub fn new(dir: &'a [u8], order: &'a [usize], extra: u16, at: Spot) -> Entries<'a>
+        requires { OnWay extra dir.now order.now at }
+        ensures entries { entries_left result ≡ left extra dir.now order.now at }
+        ensures chain { placed_left result ≡ chained extra dir.now order.now at }
+    {
+        Entries {
+            dir,
+            order,
+            extra,
+            at,
         }
-        place += 1;
-        index = 0;
     }
-    None
+
+    // The next entry, and the spot behind it, or none at the end of the chain.
+    pub fn next_entry(self) -> Option<(Placed, Spot)>
+        ensures step { Steps self.entry.extra self.entry.dir.now self.entry.order.now self.entry.at result }
+        ensures chain { ChainSteps self.entry.extra self.entry.dir.now self.entry.order.now self.entry.at result }
+    {
+        let mut index = self.at.index;
+        for place in self.at.place..self.order.len() {
+            let number = self.order[place];
+            let segment = segment_at(self.dir, number);
+            let at = entry_start(index, self.extra);
+            if word_at(segment, at) != END {
+                let status = status_at(segment, at)?;
+                let length = length_at(segment, at);
+                let entry = Placed {
+                    status,
+                    name: name_at(segment, at),
+                    length,
+                    date: date_at(segment, at),
+                    segment: number,
+                    index,
+                    start: self.at.start,
+                };
+                let next = Spot {
+                    place,
+                    index: index + 1,
+                    start: self.at.start + length as u32,
+                };
+                return Some((entry, next));
+            }
+            index = 0;
+        }
+        None
+    }
+}
+
+impl<'a> Iterator for Entries<'a> {
+    ghost use Rattle.std.specs.Iterator.{YieldsFirst, item_count};
+    ghost use Rattle.directory.specs.Entries.{entries_left};
+
+    type Item = Placed;
+
+    ghost next_gives = { YieldsFirst entries_left };
+
+    ghost remaining = { item_count entries_left };
+
+    fn next(&mut self) -> Option<Placed> {
+        let (entry, next) = self.next_entry()?;
+        self.at = next;
+        Some(entry)
+    }
+}
+
+// The same entries, each with its segment's place in the chain.
+#[derive(Clone, Copy)]
+pub struct ChainEntries<'a> {
+    entries: Entries<'a>,
+}
+
+impl<'a> Iterator for ChainEntries<'a> {
+    ghost use Rattle.std.specs.Iterator.{YieldsFirst, item_count};
+    ghost use Rattle.directory.specs.Entries.{chain_left};
+
+    type Item = (usize, Placed);
+
+    ghost next_gives = { YieldsFirst chain_left };
+
+    ghost remaining = { item_count chain_left };
+
+    fn next(&mut self) -> Option<(usize, Placed)> {
+        let (entry, next) = self.entries.next_entry()?;
+        self.entries.at = next;
+        Some((next.place, entry))
+    }
+}
+
+impl<'a> ChainEntries<'a> {
+    ghost use Rattle.directory.specs.Entries.{chain_left, placed_left};
+
+    pub fn new(entries: Entries<'a>) -> ChainEntries<'a>
+        ensures { chain_left result ≡ placed_left entries.entry }
+    {
+        ChainEntries { entries }
+    }
 }

@@ -2,17 +2,14 @@
 ghost use Rattle.std.specs.Prelude.{◌≡◌, ◌*◌, ◌≤◌, length, IfSome};
 ghost use Rattle.std.specs.List.{AllByRecursion};
 ghost use Rattle.std.specs.Option.{option_map};
-ghost use Rattle.segment.specs.Chains.{segment_at, next_of, chain_from, order_of};
+ghost use Rattle.segment.specs.Chains.{segment_at, next_of, chain_from};
 ghost use Rattle.segment.specs.Rule4.{RuleFour};
 
+use arrayvec::ArrayVec;
 use codec::words::word_at;
 
 // The segments in chain order.
-#[derive(Clone, Copy)]
-pub struct Chain {
-    pub count: usize,
-    pub order: [usize; 31],
-}
+pub type Chain = ArrayVec<usize, 31>;
 
 // The bytes of a segment. For our other crates, as those below: the caller has checked that the workspace holds it.
 pub fn segment_at(dir: &[u8], k: usize) -> &[u8]
@@ -35,30 +32,25 @@ pub fn next_of(dir: &[u8], k: usize) -> usize
 // The chain from segment 1, unless it leaves 1 to `highest`, or ends sooner or later than after so many segments.
 pub fn chain_of(dir: &[u8], highest: usize) -> Option<Chain>
     requires { (highest ≤ 31) × (1024 * highest ≤ length dir.now) }
-    ensures order { option_map order_of result ≡ chain_from highest highest (next_of dir.now) 1 }
-    ensures inside { IfSome result (λ c. (c.count ≡ highest) × AllByRecursion (λ k. (1 ≤ k) × (k ≤ highest)) (order_of c)) }
+    ensures order { option_map (λ c. c.items) result ≡ chain_from highest highest (next_of dir.now) 1 }
+    ensures inside { IfSome result (λ c. (length c.items ≡ highest) × AllByRecursion (λ k. (1 ≤ k) × (k ≤ highest)) c.items) }
 {
-    let mut order = [0; 31];
+    let mut chain = ArrayVec::new();
     let mut k = 1;
-    for i in 0..highest {
+    for _ in 0..highest {
         if k == 0 || k > highest {
             return None;
         }
-        order[i] = k;
+        chain.push(k);
         k = next_of(dir, k);
     }
     if k != 0 {
         return None;
     }
-    Some(Chain {
-        count: highest,
-        order,
-    })
+    Some(chain)
 }
 
 // Rule 4 holds exactly when a chain is found.
-pub fn rule_four() -> u8
+pub fn rule_four()
     ensures { RuleFour }
-{
-    0
-}
+{}

@@ -1,0 +1,16 @@
+-- What an iterator over the entries of a directory has left.
+use Rattle.std.specs.Prelude.{ℕ, List}
+use Rattle.directory.specs.declared.placed.Placed.{Placed}
+use Rattle.directory.specs.declared.walk.Entries.{Entries}
+use Rattle.directory.specs.declared.walk.ChainEntries.{ChainEntries}
+use Rattle.directory.specs.Walks.{left, chained}
+
+abbrev pub entries_left : Entries → List Placed
+entries_left e = left e.extra e.dir.now e.order.now e.at
+
+-- each with its segment's place in the chain
+abbrev pub placed_left : Entries → List (ℕ × Placed)
+placed_left e = chained e.extra e.dir.now e.order.now e.at
+
+abbrev pub chain_left : ChainEntries → List (ℕ × Placed)
+chain_left e = placed_left e.entries
