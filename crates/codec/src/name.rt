@@ -127,22 +127,19 @@ fn code(byte: u8) -> u16
 }
 
 // Rows of the table of words.
-pub fn name_rows() -> u8
+pub fn name_rows()
     ensures { NameRows }
 {
-    0
 }
 
 // Lawful names come back from their words.
-pub fn names_come_back() -> u8
+pub fn names_come_back()
     ensures { NamesComeBack }
 {
-    0
 }
 
 // Words below 64,000 come back from what they show, unless code 29 is among them.
-pub fn words_come_back() -> u8
+pub fn words_come_back()
     ensures { WordsComeBack }
 {
-    0
 }

@@ -7,21 +7,21 @@ pub fn word_at(bytes: &[u8], at: usize) -> u16
     requires { at + 2 ≤ length bytes.now }
     ensures { result ≡ word_at bytes.now at }
 {
-    bytes[at] as u16 + 256 * bytes[at + 1] as u16
+    u16::from_le_bytes([bytes[at], bytes[at + 1]])
 }
 
 // The low byte of a word.
 pub fn low(word: u16) -> u8
     ensures { result ≡ word % 256 }
 {
-    (word % 256) as u8
+    word.to_le_bytes()[0]
 }
 
 // The high byte of a word.
 pub fn high(word: u16) -> u8
     ensures { result ≡ word / 256 }
 {
-    (word / 256) as u8
+    word.to_le_bytes()[1]
 }
 
 // Writes some bytes over those at a place. For our other crates: the caller has checked that there is room for them.
