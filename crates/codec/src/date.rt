@@ -51,5 +51,4 @@ fn is_day(date: Date) -> bool
 // A row of the table of dates.
 pub fn date_rows()
     ensures { DateRows }
-{
-}
+{}

@@ -3,7 +3,7 @@ ghost use Rattle.std.specs.Prelude.{◌≡◌, ◌+◌, ◌<◌, ◌≤◌, leng
 ghost use Rattle.codec.specs.Names.{code_of, character, code, rad50_at, unpacked, is_name_character, is_part, is_name, name_of, shown, NameRows, NamesComeBack, WordsComeBack};
 
 // Three words of RAD50: six characters of name, three of type.
-#[derive(Clone, Copy, Debug, PartialEq, Eq)]
+#[derive(Clone, Copy, Debug, Default, PartialEq, Eq)]
 pub struct Name {
     pub first: u16,
     pub second: u16,
@@ -92,15 +92,9 @@ fn is_name_character(byte: u8) -> bool
 fn is_part(part: &[u8]) -> bool
     ensures { result ≡ is_part part.now }
 {
-    let mut ended = false;
-    for &byte in part {
-        if byte == b' ' {
-            ended = true;
-        } else if ended || !is_name_character(byte) {
-            return false;
-        }
-    }
-    true
+    part.iter()
+        .skip_while(|byte| is_name_character(**byte))
+        .all(|byte| *byte == b' ')
 }
 
 // Whether both parts of a name are lawful, with something in the first.
@@ -129,17 +123,14 @@ fn code(byte: u8) -> u16
 // Rows of the table of words.
 pub fn name_rows()
     ensures { NameRows }
-{
-}
+{}
 
 // Lawful names come back from their words.
 pub fn names_come_back()
     ensures { NamesComeBack }
-{
-}
+{}
 
 // Words below 64,000 come back from what they show, unless code 29 is among them.
 pub fn words_come_back()
     ensures { WordsComeBack }
-{
-}
+{}
