@@ -15,6 +15,7 @@ pub struct Date {
 pub struct UnlawfulDate;
 
 // What a date word says: 0 is no date, any other word has to name a day.
+#[tactic(auto, unfolding(crate::specs::Dates::dated_of))]
 pub fn dated(word: u16) -> Result<Option<Date>, UnlawfulDate>
     ensures { result ≡ dated_of word }
 {
@@ -49,6 +50,7 @@ fn is_day(date: Date) -> bool
 }
 
 // A row of the table of dates.
+#[tactic(auto, unfolding(crate::specs::Dates::dated_of))]
 pub fn date_rows()
     ensures { DateRows }
 {}

@@ -17,6 +17,7 @@ pub struct UnlawfulName;
 impl Name {
     // The words of six characters of name and three of type: capital letters, digits and $, with blanks only at the end of
     // either part, and a name part that is not all blank.
+    #[tactic(auto, using(crate::proofs::Parts::name_lawful, crate::proofs::Parts::name_unlawful))]
     pub fn from_bytes(bytes: &[u8; 9]) -> Result<Name, UnlawfulName>
         ensures { result ≡ name_of bytes.now }
     {
@@ -32,6 +33,7 @@ impl Name {
 
     // The nine characters, six of name and three of type. Code 29 shows as a question mark, and so does the first character
     // of a word of 64,000 or more.
+    #[tactic(auto, unfolding(crate::specs::Names::shown, crate::specs::Names::unpacked))]
     pub fn shown(self) -> [u8; 9]
         ensures { result ≡ shown self }
     {
@@ -71,6 +73,7 @@ fn character(code: u16) -> u8
 }
 
 // The three characters of a word.
+#[tactic(auto, unfolding(crate::specs::Names::unpacked))]
 fn unpacked(word: u16) -> [u8; 3]
     ensures { result ≡ unpacked word }
 {
@@ -98,6 +101,7 @@ fn is_part(part: &[u8]) -> bool
 }
 
 // Whether both parts of a name are lawful, with something in the first.
+#[tactic(auto, using(crate::proofs::Parts::led))]
 fn is_name(bytes: &[u8; 9]) -> bool
     ensures { result ≡ is_name bytes.now }
 {
@@ -113,6 +117,7 @@ fn rad50_at(bytes: &[u8; 9], at: usize) -> u16
 }
 
 // The code of a character that has one, else 0.
+#[tactic(auto, unfolding(crate::specs::Names::code))]
 fn code(byte: u8) -> u16
     ensures same { result ≡ code byte }
     ensures small { result < 40 }
@@ -121,11 +126,13 @@ fn code(byte: u8) -> u16
 }
 
 // Rows of the table of words.
+#[tactic(auto, unfolding(crate::specs::Names::code))]
 pub fn name_rows()
     ensures { NameRows }
 {}
 
 // Lawful names come back from their words.
+#[tactic(auto, using(crate::proofs::Spellings::names_come_back))]
 pub fn names_come_back()
     ensures { NamesComeBack }
 {}

@@ -26,6 +26,7 @@ pub fn high(word: u16) -> u8
 }
 
 // Writes some bytes over those at a place. For our other crates: the caller has checked that there is room for them.
+#[tactic(auto, using(crate::proofs::Written::put_is))]
 pub fn put(out: &mut [u8], at: usize, bytes: &[u8])
     requires { at + length bytes.now ≤ length out.old }
     ensures { out.new ≡ written out.old at bytes.now }
