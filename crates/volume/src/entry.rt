@@ -1,18 +1,49 @@
 // Entries of the directory.
 ghost use Rattle.std.specs.Prelude.{◌≡◌, ◌+◌, ◌≤◌, length};
 ghost use Rattle.codec.specs.Words.{written};
-ghost use Rattle.volume.specs.Entries.{status_word, empty_of, head_bytes, entry_bytes};
+ghost use Rattle.volume.specs.Entries.{empty_status, file_status, tentative_status, protected_status, status_word, empty_of, head_bytes, entry_bytes};
 
 use codec::name::Name;
 use codec::words::{high, low, put};
 
 // What an entry stands for.
-#[derive(Clone, Copy, Debug, PartialEq, Eq)]
+#[derive(Clone, Copy, Debug, Default, PartialEq, Eq)]
 pub enum Status {
     Tentative,
+    #[default]
     Empty,
     Permanent,
     Protected,
+}
+
+impl Status {
+    // Whether it is that of free blocks.
+    pub fn is_empty(self) -> bool
+        ensures { result ≡ empty_status self }
+    {
+        self == Status::Empty
+    }
+
+    // Whether it is that of a file, protected or not.
+    pub fn is_file(self) -> bool
+        ensures { result ≡ file_status self }
+    {
+        matches!(self, Status::Permanent | Status::Protected)
+    }
+
+    // Whether it is that of a file that is still being written.
+    pub fn is_tentative(self) -> bool
+        ensures { result ≡ tentative_status self }
+    {
+        self == Status::Tentative
+    }
+
+    // Whether it is that of a file that may not be changed.
+    pub fn is_protected(self) -> bool
+        ensures { result ≡ protected_status self }
+    {
+        self == Status::Protected
+    }
 }
 
 // An entry, with zeros behind its extra bytes.

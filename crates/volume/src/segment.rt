@@ -16,7 +16,7 @@ pub struct Header {
 }
 
 // The word that ends a segment.
-const END: u16 = 2048;
+pub const END: u16 = 2048;
 
 // How many entries a segment can hold.
 pub fn capacity(extra: u16) -> usize
