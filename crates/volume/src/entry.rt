@@ -47,7 +47,7 @@ impl Status {
 }
 
 // An entry, with zeros behind its extra bytes.
-#[derive(Clone, Copy)]
+#[derive(Clone, Copy, Default)]
 pub struct Entry {
     pub status: Status,
     pub name: Name,
