@@ -74,16 +74,8 @@ pub fn empty_of(blocks: u16) -> Entry
     ensures { result ≡ empty_of blocks }
 {
     Entry {
-        status: Status::Empty,
-        name: Name {
-            first: 0,
-            second: 0,
-            kind: 0,
-        },
         length: blocks,
-        job: 0,
-        date: 0,
-        extra: [0; 64],
+        ..Entry::default()
     }
 }
 
