@@ -1,10 +1,10 @@
 // Entries of the directory.
 ghost use Rattle.std.specs.Prelude.{◌≡◌, ◌+◌, ◌≤◌, length};
 ghost use Rattle.codec.specs.Words.{written};
-ghost use Rattle.volume.specs.Entries.{empty_status, file_status, tentative_status, protected_status, status_word, empty_of, head_bytes, entry_bytes};
+ghost use Rattle.volume.specs.Entries.{empty_status, file_status, tentative_status, protected_status, status_word, empty_of, entry_bytes};
 
 use codec::name::Name;
-use codec::words::{high, low, put};
+use codec::words::{put, put_words};
 
 // What an entry stands for.
 #[derive(Clone, Copy, Debug, Default, PartialEq, Eq)]
@@ -79,35 +79,22 @@ pub fn empty_of(blocks: u16) -> Entry
     }
 }
 
-// The seven words of an entry, as bytes.
-fn head_bytes(e: &Entry) -> [u8; 14]
-    ensures { result ≡ head_bytes e.now }
-{
-    let status = status_word(e.status);
-    [
-        low(status),
-        high(status),
-        low(e.name.first),
-        high(e.name.first),
-        low(e.name.second),
-        high(e.name.second),
-        low(e.name.kind),
-        high(e.name.kind),
-        low(e.length),
-        high(e.length),
-        low(e.job),
-        high(e.job),
-        low(e.date),
-        high(e.date),
-    ]
-}
-
 // Writes an entry over the bytes at a place.
 pub(crate) fn encode_entry(e: &Entry, extra: usize, out: &mut [u8], at: usize)
     requires { (at + 14 + extra ≤ length out.old) × (extra ≤ 64) }
     ensures after { out.new ≡ written out.old at (entry_bytes extra e.now) }
     ensures long { length (entry_bytes extra e.now) ≡ 14 + extra }
 {
-    put(out, at, &head_bytes(e));
-    put(out, at + 14, &e.extra[0..extra]);
+    let name = e.name;
+    let words = [
+        status_word(e.status),
+        name.first,
+        name.second,
+        name.kind,
+        e.length,
+        e.job,
+        e.date,
+    ];
+    put_words(out, at, &words);
+    put(out, at + 14, &e.extra[..extra]);
 }
