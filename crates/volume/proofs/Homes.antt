@@ -1,9 +1,8 @@
 -- The bytes of a home block, and the sum of its words.
-use Rattle.std.proofs.Common.{◌≡◌, ℕ, zero, suc, ◌+◌, ◌-◌, ◌*◌, ◌/◌, ◌%◌, ◌<◌, ◌≤◌, cond, eqb, List, [], ◌∷◌, ◌++◌, length, get_or, take, drop, replicate, codes, refl, ap, ◌∙◌, arith}
+use Rattle.std.proofs.Common.{◌≡◌, ℕ, zero, suc, ◌+◌, ◌-◌, ◌*◌, ◌/◌, ◌%◌, ◌<◌, ◌≤◌, List, [], ◌∷◌, ◌++◌, length, get_or, take, drop, replicate, codes, refl, ap, ◌∙◌, arith}
 use Rattle.std.specs.Int.{w16, from_le_bytes}
 use Rattle.std.specs.List.{fold, flat_map}
 use Rattle.std.specs.Simd.{first_chunks}
-use Rattle.std.proofs.lemmas.Bool.{cond-true}
 use Rattle.std.proofs.lemmas.List.{append_assoc, append-nil, take-append-drop, length-append, length-replicate, length-take-le, get_or_append_left, get_or-drop, get_or-take}
 use Rattle.codec.specs.Words.{word_at, written, word_bytes}
 use Rattle.codec.proofs.Written.{into_zeros}
@@ -101,7 +100,3 @@ home-made old b c s h e f p =
     = f ∙ ap (λ (x : List ℕ). words_sum x 255 % 65536) e ∙ ap (λ (x : ℕ). x % 65536) (words_front (home_front old) (replicate 2 0) 255 (omega (arith, front_long old h))) in
     p ∙ ap (λ (x : List ℕ). written x 510 (word_bytes s)) e ∙ into_zeros (home_front old) (word_bytes s) 2 0 510 0 (omega (arith, front_long old h)) refl
     ∙ append-nil (home_front old ++ word_bytes s) ∙ ap (λ (x : ℕ). home_front old ++ word_bytes x) k
-
-pub home-long : (old : List ℕ) → length old ≡ 512 → length (home old) ≡ 512
-unfolding home
-home-long old h = length-append (home_front old) _ ∙ omega (arith, front_long old h)
