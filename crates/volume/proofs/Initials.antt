@@ -1,6 +1,6 @@
 -- The steps of INITIALIZE.
-use Rattle.std.proofs.Common.{◌≡◌, ℕ, ◌+◌, ◌-◌, ◌*◌, ◌≤◌, true, false, leb, List, get_or, set, replicate, Ok, Err, Result, sym, ap, ◌∙◌, subst}
-use Rattle.std.proofs.lemmas.Bool.{cond-true, cond-false, and_parts, leb-true}
+use Rattle.std.proofs.Common.{◌≡◌, ℕ, ◌-◌, ◌*◌, true, false, List, get_or, set, replicate, Ok, Err, Result, sym, ap, ◌∙◌, subst}
+use Rattle.std.proofs.lemmas.Bool.{cond-true, cond-false}
 use Rattle.device.specs.declared.fault.DeviceFault.{DeviceFault}
 use Rattle.device.specs.Blocks.{Block, none, good, Whole}
 use Rattle.device.specs.Stacks.{Stack, shown, Became}
@@ -26,12 +26,6 @@ all_laid s k j i t v old x y d e p q r =
     let a = became_by s _ k p (λ z. overwritten z 6 (halves y)) j q in
     let b = became_by s _ j a (λ z. overwritten z 8 (replicate (2 * t - 2) (replicate 512 0))) i r in
     rw (← d, ← e) b
-
-pub fit_range : (t v : ℕ) → true ≡ segments_fit t v → (1 ≤ t) × ((t ≤ 31) × (7 + 2 * t ≤ v))
-fit_range t v e =
-    let p = and_parts (leb 1 t) _ (sym e) in
-    let q = and_parts (leb t 31) _ p.1 in
-    (leb-true 1 t p.0, (leb-true t 31 q.0, leb-true (7 + 2 * t) v q.1))
 
 -- the answers, on a level of v blocks
 module _ (t v : ℕ) (bs : List Block) (y : v ≡ level_size bs) where

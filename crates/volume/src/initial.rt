@@ -15,6 +15,7 @@ use device::Device;
 use device::fault::DeviceFault;
 
 // Segment 1 of a new volume: one empty, behind the directory.
+#[tactic(auto, unfolding(crate::specs::Initial::first_segment))]
 fn first_segment(total: u16, blocks: u16) -> [u8; 1024]
     requires { (total ≤ 31) × (7 + 2 * total ≤ blocks) }
     ensures { result ≡ first_segment total blocks }

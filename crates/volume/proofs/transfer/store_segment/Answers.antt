@@ -12,15 +12,10 @@ write_known-requires-2 g c =
     let b : ℕ = 4 + 2 * c.args.k in
     λ y h l. good_still s _ k c.in_ok-write_known.ensures.after b (6 + 2 * c.args.k) c.requires.known y (omega arith) (omega arith)
 
-pub returns : goal.returns
-returns g c =
+pub returns-clause-after : goal.returns-clause-after
+returns-clause-after g c =
     let s = (g.D.Device.held c.args.d.now).stack in
     let k = (g.D.Device.held c.write_known.new.d).stack in
     let j = (g.D.Device.held c.write_known-2.new.d).stack in
-    let p = c.in_ok-write_known.ensures in
-    let q = c.write_known-2.ensures in
-    record {
-      answer = q.answer;
-      after = both_written s k j (4 + 2 * c.args.k) (5 + 2 * c.args.k) c.args.bytes.now c.as_chunks.result.0.now c.told-bytes c.as_chunks.ensures.front (omega arith) p.after q.after;
-      fixed = cc (p.fixed, q.fixed);
-    }
+    both_written s k j (4 + 2 * c.args.k) (5 + 2 * c.args.k) c.args.bytes.now c.as_chunks.result.0.now c.told-bytes c.as_chunks.ensures.front (omega arith)
+    c.in_ok-write_known.ensures.after c.write_known-2.ensures.after

@@ -1,12 +1,8 @@
-use Rattle.std.proofs.Common.{ℕ, ◌+◌, ap, ◌∙◌, arith, zero-add}
+use Rattle.std.proofs.Common.{ℕ, ◌+◌, ◌∙◌, arith, zero-add}
 use Rattle.std.proofs.lemmas.Result.{err_from_is_err_and}
 use Rattle.device.specs.Held.{shows}
-use Rattle.volume.specs.Transfers.{readable}
 use Rattle.volume.proofs.Stretches.{readable_more, readable_fault, readable_all}
 use Rattle.volume.proofs.transfer.sweep.Goals as goal
-
-pub loop-k-init : goal.loop-k-init
-loop-k-init g c = ap (readable (shows (g.D.Device.held c.args.d.now)) c.args.b) (omega arith)
 
 pub loop-k-preserved : goal.loop-k-preserved
 loop-k-preserved g c =

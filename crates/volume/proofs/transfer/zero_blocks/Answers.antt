@@ -31,10 +31,10 @@ loop-k-preserved g c =
       cc (e.fixed, c.loop-k.invariant.2),
     )
 
-pub returns : goal.returns
-returns g c =
+pub returns-clause-after : goal.returns-clause-after
+returns-clause-after g c =
     let s = (g.D.Device.held c.args.d.now).stack in
     let k = (g.D.Device.held c.loop-k.d).stack in
     let e = overwritten_all (shown k) c.loop-k.k (c.args.b + c.args.n) (replicate 512 0)
     (overwritten (shown s) c.args.b (replicate c.args.n (replicate 512 0))) c.loop-k.invariant.1 (omega arith) in
-    record { answer = refl; after = subst (λ (z : List Block). Became s z k) e c.loop-k.invariant.0; fixed = c.loop-k.invariant.2 }
+    subst (λ (z : List Block). Became s z k) e c.loop-k.invariant.0
