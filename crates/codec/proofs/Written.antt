@@ -1,8 +1,10 @@
 -- What one write after another leaves.
-use Rattle.std.proofs.Common.{◌≡◌, ℕ, ◌+◌, ◌-◌, ◌≤◌, List, ◌++◌, length, take, drop, replicate, sym, ap, ◌∙◌, zero-add, arith}
-use Rattle.std.proofs.lemmas.List.{append_assoc, take_at, drop_at, drop-drop, length-take-le, length-append, length-replicate, drop-replicate, replicate-append-replicate}
+use Rattle.std.proofs.Common.{◌≡◌, ℕ, ◌+◌, ◌-◌, ◌*◌, ◌/◌, ◌%◌, ◌<◌, ◌≤◌, List, [], ◌∷◌, ◌++◌, length, get_or, take, drop, replicate, sym, refl, ap, ◌∙◌, zero-add, add-zero, arith}
+use Rattle.std.specs.Int.{w16, to_le_bytes}
+use Rattle.std.specs.List.{flat_map}
+use Rattle.std.proofs.lemmas.List.{append_assoc, take-append-drop, take_more, flat_map_more, take_at, drop_at, drop-drop, length-take-le, length-append, length-replicate, drop-replicate, replicate-append-replicate}
 use borrow.Rule.Slice.PartMut.{put_mid}
-use Rattle.codec.specs.Words.{written}
+use Rattle.codec.specs.Words.{word_bytes, written}
 
 -- a write to a part of a slice, as the checker reads it
 pub put_is : (bs ys xs : List ℕ) (at n : ℕ) → ys ≡ xs → n ≡ length xs → put_mid at n bs ys ≡ written bs at xs
@@ -50,3 +52,24 @@ into_zeros p ys n g at m e f =
     let back : drop (length ys) z ≡ replicate m 0
     = drop-replicate (length ys) (length ys + m) 0 ∙ ap (λ (k : ℕ). replicate k 0) (omega arith) in
     ap (λ (x : List ℕ). written x at ys) split ∙ behind q z ys at long ∙ ap (λ (x : List ℕ). q ++ (ys ++ x)) back ∙ simp append_assoc
+
+-- nothing written
+pub written-none : (bs : List ℕ) (at : ℕ) → bs ≡ written bs at []
+unfolding written
+written-none bs at = sym (rw add-zero (take-append-drop at bs))
+
+-- the bytes of a word as the checker writes them
+pub bytes_are : (w : ℕ) → w < 65536 → to_le_bytes w16 w ≡ word_bytes w
+bytes_are w h = let high : w / 256 % 256 ≡ w / 256 = omega arith in rw high refl
+
+-- the bytes of some words, and one word more
+words_long : (ws : List ℕ) → length (flat_map word_bytes ws) ≡ 2 * length ws
+words_long [] = refl
+words_long (w ∷ ws) = omega (arith, words_long ws)
+
+pub word_more : (bs b c : List ℕ) (at i : ℕ) (ws : List ℕ) → i < length ws → at ≤ length bs → b ≡ written bs at (flat_map word_bytes (take i ws))
+    → c ≡ written b (at + 2 * i) (word_bytes (get_or ws i 0)) → c ≡ written bs at (flat_map word_bytes (take (i + 1) ws))
+word_more bs b c at i ws l h p q =
+    let long : at + length (flat_map word_bytes (take i ws)) ≡ at + 2 * i = omega (arith, words_long (take i ws), length-take-le i ws) in
+    written-two bs at _ _ (word_bytes (get_or ws i 0)) _ p q refl long h
+    ∙ ap (written bs at) (flat_map_more word_bytes [] (take i ws) (get_or ws i 0) ∙ ap (flat_map word_bytes) (sym (take_more ws i 0 l)))

@@ -10,25 +10,23 @@ pub struct Date {
     pub year: u16,
 }
 
-// What a lawful date word says: no date, or a day.
+// A word that is no lawful date.
 #[derive(Clone, Copy, Debug, PartialEq, Eq)]
-pub enum Dating {
-    Undated,
-    On(Date),
-}
+pub struct UnlawfulDate;
 
-// What a date word says, if it is lawful: 0 is no date, any other word has to name a day.
-pub fn dated(word: u16) -> Option<Dating>
+// What a date word says: 0 is no date, any other word has to name a day.
+#[tactic(auto, unfolding(crate::specs::Dates::dated_of))]
+pub fn dated(word: u16) -> Result<Option<Date>, UnlawfulDate>
     ensures { result ≡ dated_of word }
 {
     if word == 0 {
-        return Some(Dating::Undated);
+        return Ok(None);
     }
     let date = date_in(word);
     if is_day(date) {
-        Some(Dating::On(date))
+        Ok(Some(date))
     } else {
-        None
+        Err(UnlawfulDate)
     }
 }
 
@@ -52,8 +50,7 @@ fn is_day(date: Date) -> bool
 }
 
 // A row of the table of dates.
-pub fn date_rows() -> u8
+#[tactic(auto, unfolding(crate::specs::Dates::dated_of))]
+pub fn date_rows()
     ensures { DateRows }
-{
-    0
-}
+{}

@@ -3,7 +3,7 @@ ghost use Rattle.std.specs.Prelude.{◌≡◌, ◌+◌, ◌<◌, ◌≤◌, leng
 ghost use Rattle.codec.specs.Names.{code_of, character, code, rad50_at, unpacked, is_name_character, is_part, is_name, name_of, shown, NameRows, NamesComeBack, WordsComeBack};
 
 // Three words of RAD50: six characters of name, three of type.
-#[derive(Clone, Copy, Debug, PartialEq, Eq)]
+#[derive(Clone, Copy, Debug, Default, PartialEq, Eq)]
 pub struct Name {
     pub first: u16,
     pub second: u16,
@@ -17,6 +17,7 @@ pub struct UnlawfulName;
 impl Name {
     // The words of six characters of name and three of type: capital letters, digits and $, with blanks only at the end of
     // either part, and a name part that is not all blank.
+    #[tactic(auto, using(crate::proofs::Parts::name_lawful, crate::proofs::Parts::name_unlawful))]
     pub fn from_bytes(bytes: &[u8; 9]) -> Result<Name, UnlawfulName>
         ensures { result ≡ name_of bytes.now }
     {
@@ -32,6 +33,7 @@ impl Name {
 
     // The nine characters, six of name and three of type. Code 29 shows as a question mark, and so does the first character
     // of a word of 64,000 or more.
+    #[tactic(auto, unfolding(crate::specs::Names::shown, crate::specs::Names::unpacked))]
     pub fn shown(self) -> [u8; 9]
         ensures { result ≡ shown self }
     {
@@ -71,6 +73,7 @@ fn character(code: u16) -> u8
 }
 
 // The three characters of a word.
+#[tactic(auto, unfolding(crate::specs::Names::unpacked))]
 fn unpacked(word: u16) -> [u8; 3]
     ensures { result ≡ unpacked word }
 {
@@ -92,18 +95,13 @@ fn is_name_character(byte: u8) -> bool
 fn is_part(part: &[u8]) -> bool
     ensures { result ≡ is_part part.now }
 {
-    let mut ended = false;
-    for &byte in part {
-        if byte == b' ' {
-            ended = true;
-        } else if ended || !is_name_character(byte) {
-            return false;
-        }
-    }
-    true
+    part.iter()
+        .skip_while(|byte| is_name_character(**byte))
+        .all(|byte| *byte == b' ')
 }
 
 // Whether both parts of a name are lawful, with something in the first.
+#[tactic(auto, using(crate::proofs::Parts::led))]
 fn is_name(bytes: &[u8; 9]) -> bool
     ensures { result ≡ is_name bytes.now }
 {
@@ -119,6 +117,7 @@ fn rad50_at(bytes: &[u8; 9], at: usize) -> u16
 }
 
 // The code of a character that has one, else 0.
+#[tactic(auto, unfolding(crate::specs::Names::code))]
 fn code(byte: u8) -> u16
     ensures same { result ≡ code byte }
     ensures small { result < 40 }
@@ -127,22 +126,18 @@ fn code(byte: u8) -> u16
 }
 
 // Rows of the table of words.
-pub fn name_rows() -> u8
+#[tactic(auto, unfolding(crate::specs::Names::code))]
+pub fn name_rows()
     ensures { NameRows }
-{
-    0
-}
+{}
 
 // Lawful names come back from their words.
-pub fn names_come_back() -> u8
+#[tactic(auto, using(crate::proofs::Spellings::names_come_back))]
+pub fn names_come_back()
     ensures { NamesComeBack }
-{
-    0
-}
+{}
 
 // Words below 64,000 come back from what they show, unless code 29 is among them.
-pub fn words_come_back() -> u8
+pub fn words_come_back()
     ensures { WordsComeBack }
-{
-    0
-}
+{}

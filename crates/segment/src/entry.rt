@@ -6,7 +6,7 @@ use codec::name::Name;
 use codec::words::{put, word_at};
 use volume::entry::{Entry, Status};
 
-// The status that a word names.
+// The status that a word names. An Option, since TryFrom would have an error type that says no more.
 fn status_of(word: u16) -> Option<Status>
     ensures { result ≡ status_of word }
 {
@@ -21,6 +21,7 @@ fn status_of(word: u16) -> Option<Status>
 
 // The status of the entry at a place, unless it is none of the four. For our other crates: the caller has checked that
 // its word is there.
+#[tactic(auto, using(crate::proofs::Fields::word_here))]
 pub fn status_at(bytes: &[u8], at: usize) -> Option<Status>
     requires { at + 2 ≤ length bytes.now }
     ensures { result ≡ status_in (drop at bytes.now) }
@@ -30,6 +31,7 @@ pub fn status_at(bytes: &[u8], at: usize) -> Option<Status>
 
 // The name of the entry at a place. For our other crates, as those below: the caller has checked that its seven words
 // are there.
+#[tactic(auto, using(crate::proofs::Fields::name_is))]
 pub fn name_at(bytes: &[u8], at: usize) -> Name
     requires { at + 14 ≤ length bytes.now }
     ensures { result ≡ name_in (drop at bytes.now) }
@@ -42,6 +44,7 @@ pub fn name_at(bytes: &[u8], at: usize) -> Name
 }
 
 // Its length in blocks.
+#[tactic(auto, using(crate::proofs::Fields::word_past))]
 pub fn length_at(bytes: &[u8], at: usize) -> u16
     requires { at + 14 ≤ length bytes.now }
     ensures { result ≡ length_in (drop at bytes.now) }
@@ -50,6 +53,7 @@ pub fn length_at(bytes: &[u8], at: usize) -> u16
 }
 
 // Its job word.
+#[tactic(auto, using(crate::proofs::Fields::word_past))]
 pub fn job_at(bytes: &[u8], at: usize) -> u16
     requires { at + 14 ≤ length bytes.now }
     ensures { result ≡ job_in (drop at bytes.now) }
@@ -58,6 +62,7 @@ pub fn job_at(bytes: &[u8], at: usize) -> u16
 }
 
 // Its date word.
+#[tactic(auto, using(crate::proofs::Fields::word_past))]
 pub fn date_at(bytes: &[u8], at: usize) -> u16
     requires { at + 14 ≤ length bytes.now }
     ensures { result ≡ date_in (drop at bytes.now) }
@@ -77,6 +82,7 @@ fn extra_of(bytes: &[u8]) -> [u8; 64]
 
 // The entry at a place, unless its status is none of the four. For our other crates: the caller has checked that all of
 // it is there, and how many extra bytes it has.
+#[tactic(auto, using(crate::proofs::Fields::entry_is, crate::proofs::Fields::extra_is))]
 pub fn decode_entry(bytes: &[u8], at: usize, extra: u16) -> Option<Entry>
     requires { (at + 14 + extra ≤ length bytes.now) × (extra ≤ 64) }
     ensures { result ≡ entry_of extra (drop at bytes.now) }

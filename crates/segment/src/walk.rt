@@ -7,13 +7,11 @@ ghost use Rattle.segment.specs.Segments.{entry_start, segment_entries};
 
 use crate::entry::status_at;
 use codec::words::word_at;
-use volume::segment::capacity;
-
-// The word that ends a segment.
-const END: u16 = 2048;
+use volume::segment::{END, capacity};
 
 // Where an entry of a segment begins, counted from 0. For our other crates: the caller has checked that a segment can
 // hold so many.
+#[tactic(auto, using(crate::proofs::Walks::room_for, crate::proofs::Walks::room_behind))]
 pub fn entry_start(index: usize, extra: u16) -> usize
     requires { index ≤ capacity_of extra }
     ensures start { result ≡ entry_start extra index }
@@ -42,12 +40,10 @@ pub fn count_entries(segment: &[u8], extra: u16) -> Option<usize>
 }
 
 // What is written is read back, and what is read can be written.
-pub fn segment_reads_back() -> u8
+pub fn segment_reads_back()
     ensures entry { EntryReadsBack }
     ensures header { HeaderReadsBack }
     ensures segment { SegmentReadsBack }
     ensures lawful { ReadAreLawful }
     ensures again { RewrittenReadsBack }
-{
-    0
-}
+{}

@@ -1,6 +1,6 @@
 -- The steps of INITIALIZE.
-use Rattle.std.proofs.Common.{◌≡◌, ℕ, ◌+◌, ◌-◌, ◌*◌, ◌≤◌, true, false, leb, List, get_or, set, replicate, Ok, Err, Result, sym, ap, ◌∙◌, subst}
-use Rattle.std.proofs.lemmas.Bool.{cond-true, cond-false, and_parts, leb-true}
+use Rattle.std.proofs.Common.{◌≡◌, ℕ, ◌-◌, ◌*◌, true, false, List, get_or, set, replicate, Ok, Err, Result, sym, ap, ◌∙◌, subst}
+use Rattle.std.proofs.lemmas.Bool.{cond-true, cond-false}
 use Rattle.device.specs.declared.fault.DeviceFault.{DeviceFault}
 use Rattle.device.specs.Blocks.{Block, none, good, Whole}
 use Rattle.device.specs.Stacks.{Stack, shown, Became}
@@ -16,22 +16,16 @@ use Rattle.volume.specs.Initial.{first_segment, new_directory, laid_out, init_an
 use Rattle.volume.proofs.Stretches.{fetch_is, became_by}
 
 -- home block, segment 1, zeros
-pub all_laid : (s k j i : Stack) (t v : ℕ) (old y : List ℕ) → y ≡ first_segment t v
-    → Became s (set (shown s) 1 (good (home old))) k
+pub all_laid : (s k j i : Stack) (t v : ℕ) (old x y : List ℕ) → x ≡ home old → y ≡ first_segment t v
+    → Became s (set (shown s) 1 (good x)) k
     → Became k (overwritten (shown k) 6 (halves y)) j
     → Became j (overwritten (shown j) 8 (replicate (2 * t - 2) (replicate 512 0))) i
     → Became s (laid_out (shown s) t v old) i
 unfolding laid_out new_directory overwritten
-all_laid s k j i t v old y e p q r =
+all_laid s k j i t v old x y d e p q r =
     let a = became_by s _ k p (λ z. overwritten z 6 (halves y)) j q in
     let b = became_by s _ j a (λ z. overwritten z 8 (replicate (2 * t - 2) (replicate 512 0))) i r in
-    subst (λ (z : List ℕ). Became s (overwritten (overwritten (set (shown s) 1 (good (home old))) 6 (halves z)) 8 (replicate (2 * t - 2) (replicate 512 0))) i) e b
-
-pub fit_range : (t v : ℕ) → true ≡ segments_fit t v → (1 ≤ t) × ((t ≤ 31) × (7 + 2 * t ≤ v))
-fit_range t v e =
-    let p = and_parts (leb 1 t) _ (sym e) in
-    let q = and_parts (leb t 31) _ p.1 in
-    (leb-true 1 t p.0, (leb-true t 31 q.0, leb-true (7 + 2 * t) v q.1))
+    rw (← d, ← e) b
 
 -- the answers, on a level of v blocks
 module _ (t v : ℕ) (bs : List Block) (y : v ≡ level_size bs) where

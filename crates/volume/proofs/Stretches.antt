@@ -1,5 +1,6 @@
 -- Blocks read or written one after another, over every pile.
-use Rattle.std.proofs.Common.{◌≡◌, ℕ, zero, suc, ◌+◌, ◌-◌, ◌<◌, ◌≤◌, Bool, true, false, cond, ltb, ◌⊎◌, List, length, get_or, take, drop, set, replicate, Ok, Err, Result, sym, refl, ap, ◌∙◌, subst, inl, inr, arith}
+use Rattle.std.proofs.Common.{◌≡◌, ℕ, zero, suc, ◌+◌, ◌-◌, ◌/◌, ◌<◌, ◌≤◌, Bool, true, false, cond, ltb, ◌⊎◌, List, [], length, get_or, take, drop, set, replicate, Ok, Err, Result, sym, refl, ap, ◌∙◌, subst, inl, inr, arith}
+use Rattle.std.specs.Simd.{first_chunks}
 use Rattle.std.proofs.lemmas.Bool.{ltb-true, cases_eq}
 use Rattle.std.proofs.lemmas.List.{take_all, length-drop}
 use Rattle.device.specs.declared.fault.DeviceFault.{DeviceFault}
@@ -82,12 +83,6 @@ readable-good bs b (suc n) p =
     let both = both_ok (fetch bs b) _ p in
     good_more bs b n (fetch_is_good bs b both.0.0 both.0.1) (readable-good bs (suc b) n both.1)
 
--- a good block is not refused
-pub good_accepted : (bs : List Block) (b : ℕ) (e : DeviceFault) → AllGood bs b (b + 1) → Err e ≡ answered (fetch bs b) → ⊥
-good_accepted bs b e g p =
-    let at = g b (omega arith) (omega arith) in
-    ok_err _ e (sym (fetch-good bs b at.0 at.1) ∙ read_err (fetch bs b) e p)
-
 -- a good block is written
 pub good-written : (s : Stack) (b : ℕ) (from : List ℕ) (r : Result (Unit {0}) DeviceFault) (k : Stack) → Whole s.bottom
     → AllGood (shown s) b (b + 1) → length from ≡ 512 → r ≡ answered (fetch (shown s) b) → k ≡ stored (fetch (shown s) b) s b from
@@ -130,28 +125,30 @@ module _ (s : Stack) (m : List Block) (k : Stack) (a : Became s m k) where
 pub became_more : (s k : Stack) (n : List Block) (j : Stack) → Became s (shown k) k → Became k n j → Became s (shown j) j
 became_more s k n j a b = subst (λ (z : List Block). Became s z j) (sym (became_shown k n j b)) (became_then s (shown k) k a n j b)
 
--- of n blocks that are overwritten with x, i have been: one more, or none is left
-module _ (bs : List Block) (b i n : ℕ) (x : List ℕ) (all : List Block) (r : overwritten bs (b + i) (replicate (n - i) x) ≡ all) where
-  pub overwritten_more : (cs : List Block) → i < n → cs ≡ set bs (b + i) (good x) → overwritten cs (b + (i + 1)) (replicate (n - (i + 1)) x) ≡ all
+-- of the blocks before e that are overwritten with x, k comes next: one more, or none is left
+module _ (bs : List Block) (k e : ℕ) (x : List ℕ) (all : List Block) (r : overwritten bs k (replicate (e - k) x) ≡ all) where
+  pub overwritten_more : (cs : List Block) → k < e → cs ≡ set bs k (good x) → overwritten cs (k + 1) (replicate (e - (k + 1)) x) ≡ all
   unfolding overwritten
-  overwritten_more cs h e =
-      let m : n - i ≡ suc (n - (i + 1)) = omega arith in
-      let c : b + (i + 1) ≡ suc (b + i) = omega arith in
-      rw (e, c) (ap (λ (z : ℕ). overwritten bs (b + i) (replicate z x)) (sym m) ∙ r)
+  overwritten_more cs h p =
+      let m : e - k ≡ suc (e - suc k) = omega arith in
+      let c : k + 1 ≡ suc k = omega arith in
+      rw (p, c) (ap (λ (z : ℕ). overwritten bs k (replicate z x)) (sym m) ∙ r)
 
-  pub overwritten_all : n ≤ i → bs ≡ all
+  pub overwritten_all : e ≤ k → bs ≡ all
   unfolding overwritten
   overwritten_all h =
-      let m : n - i ≡ 0 = omega arith in
-      ap (λ (z : ℕ). overwritten bs (b + i) (replicate z x)) (sym m) ∙ r
+      let m : e - k ≡ 0 = omega arith in
+      ap (λ (z : ℕ). overwritten bs k (replicate z x)) (sym m) ∙ r
 
 -- both blocks of a segment
-pub both_written : (s k j : Stack) (b c : ℕ) (bytes : List ℕ) → length bytes ≡ 1024 → c ≡ suc b
-    → Became s (set (shown s) b (good (take 512 bytes))) k → Became k (set (shown k) c (good (take 512 (drop 512 bytes)))) j
+pub both_written : (s k j : Stack) (b c : ℕ) (bytes : List ℕ) (parts : List (List ℕ)) → length bytes ≡ 1024 → parts ≡ first_chunks 512 (length bytes / 512) bytes → c ≡ suc b
+    → Became s (set (shown s) b (good (get_or parts 0 []))) k → Became k (set (shown k) c (good (get_or parts 1 []))) j
     → Became s (overwritten (shown s) b (halves bytes)) j
 unfolding overwritten
-both_written s k j b c bytes l e p q =
+both_written s k j b c bytes parts l f e p q =
+    let two : length bytes / 512 ≡ 2 = omega arith in
     let all : take 512 (drop 512 bytes) ≡ drop 512 bytes = take_all 512 (drop 512 bytes) (simp length-drop (omega arith)) in
-    let r : Became s (set (set (shown s) b (good (take 512 bytes))) c (good (take 512 (drop 512 bytes)))) j
-    = became_by s _ k p (λ z. set z c (good (take 512 (drop 512 bytes)))) j q in
-    rw (e, all) at r
+    let h : parts ≡ halves bytes = f ∙ rw (two, all) refl in
+    let r : Became s (set (set (shown s) b (good (get_or parts 0 []))) c (good (get_or parts 1 []))) j
+    = became_by s _ k p (λ z. set z c (good (get_or parts 1 []))) j q in
+    rw (e, h) at r

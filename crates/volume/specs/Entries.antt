@@ -1,5 +1,5 @@
 -- Entries of the directory, and their bytes.
-use Rattle.std.specs.Prelude.{ℕ, List, ◌++◌, take, replicate}
+use Rattle.std.specs.Prelude.{ℕ, Bool, true, false, List, ◌++◌, take, replicate}
 use Rattle.codec.specs.Words.{word_bytes}
 use Rattle.volume.specs.declared.entry.Status.{Status}
 use Rattle.volume.specs.declared.entry.Status.TheVariants.{Tentative, Empty, Permanent, Protected}
@@ -11,6 +11,31 @@ status_word Tentative = 256
 status_word Empty = 512
 status_word Permanent = 1024
 status_word Protected = 33792
+
+-- what a status says: an empty, a file, a tentative file, a protected file
+abbrev pub empty_status : Status → Bool
+empty_status Tentative = false
+empty_status Empty = true
+empty_status Permanent = false
+empty_status Protected = false
+
+abbrev pub file_status : Status → Bool
+file_status Tentative = false
+file_status Empty = false
+file_status Permanent = true
+file_status Protected = true
+
+abbrev pub tentative_status : Status → Bool
+tentative_status Tentative = true
+tentative_status Empty = false
+tentative_status Permanent = false
+tentative_status Protected = false
+
+abbrev pub protected_status : Status → Bool
+protected_status Tentative = false
+protected_status Empty = false
+protected_status Permanent = false
+protected_status Protected = true
 
 -- an empty of n blocks: zero but for status and length
 abbrev pub empty_of : ℕ → Entry

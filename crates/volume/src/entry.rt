@@ -1,22 +1,53 @@
 // Entries of the directory.
 ghost use Rattle.std.specs.Prelude.{◌≡◌, ◌+◌, ◌≤◌, length};
 ghost use Rattle.codec.specs.Words.{written};
-ghost use Rattle.volume.specs.Entries.{status_word, empty_of, head_bytes, entry_bytes};
+ghost use Rattle.volume.specs.Entries.{empty_status, file_status, tentative_status, protected_status, status_word, empty_of, entry_bytes};
 
 use codec::name::Name;
-use codec::words::{high, low, put};
+use codec::words::{put, put_words};
 
 // What an entry stands for.
-#[derive(Clone, Copy, Debug, PartialEq, Eq)]
+#[derive(Clone, Copy, Debug, Default, PartialEq, Eq)]
 pub enum Status {
     Tentative,
+    #[default]
     Empty,
     Permanent,
     Protected,
 }
 
+impl Status {
+    // Whether it is that of free blocks.
+    pub fn is_empty(self) -> bool
+        ensures { result ≡ empty_status self }
+    {
+        self == Status::Empty
+    }
+
+    // Whether it is that of a file, protected or not.
+    pub fn is_file(self) -> bool
+        ensures { result ≡ file_status self }
+    {
+        matches!(self, Status::Permanent | Status::Protected)
+    }
+
+    // Whether it is that of a file that is still being written.
+    pub fn is_tentative(self) -> bool
+        ensures { result ≡ tentative_status self }
+    {
+        self == Status::Tentative
+    }
+
+    // Whether it is that of a file that may not be changed.
+    pub fn is_protected(self) -> bool
+        ensures { result ≡ protected_status self }
+    {
+        self == Status::Protected
+    }
+}
+
 // An entry, with zeros behind its extra bytes.
-#[derive(Clone, Copy)]
+#[derive(Clone, Copy, Default)]
 pub struct Entry {
     pub status: Status,
     pub name: Name,
@@ -43,40 +74,9 @@ pub fn empty_of(blocks: u16) -> Entry
     ensures { result ≡ empty_of blocks }
 {
     Entry {
-        status: Status::Empty,
-        name: Name {
-            first: 0,
-            second: 0,
-            kind: 0,
-        },
         length: blocks,
-        job: 0,
-        date: 0,
-        extra: [0; 64],
+        ..Entry::default()
     }
-}
-
-// The seven words of an entry, as bytes.
-fn head_bytes(e: &Entry) -> [u8; 14]
-    ensures { result ≡ head_bytes e.now }
-{
-    let status = status_word(e.status);
-    [
-        low(status),
-        high(status),
-        low(e.name.first),
-        high(e.name.first),
-        low(e.name.second),
-        high(e.name.second),
-        low(e.name.kind),
-        high(e.name.kind),
-        low(e.length),
-        high(e.length),
-        low(e.job),
-        high(e.job),
-        low(e.date),
-        high(e.date),
-    ]
 }
 
 // Writes an entry over the bytes at a place.
@@ -85,6 +85,16 @@ pub(crate) fn encode_entry(e: &Entry, extra: usize, out: &mut [u8], at: usize)
     ensures after { out.new ≡ written out.old at (entry_bytes extra e.now) }
     ensures long { length (entry_bytes extra e.now) ≡ 14 + extra }
 {
-    put(out, at, &head_bytes(e));
-    put(out, at + 14, &e.extra[0..extra]);
+    let name = e.name;
+    let words = [
+        status_word(e.status),
+        name.first,
+        name.second,
+        name.kind,
+        e.length,
+        e.job,
+        e.date,
+    ];
+    put_words(out, at, &words);
+    put(out, at + 14, &e.extra[..extra]);
 }

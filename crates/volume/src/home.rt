@@ -2,7 +2,7 @@
 ghost use Rattle.std.specs.Prelude.{◌≡◌, ◌%◌};
 ghost use Rattle.volume.specs.Home.{words_sum, home};
 
-use codec::words::{high, low, put};
+use codec::words::{put, put_words};
 
 // The system version, V05 in RAD50.
 const VERSION: u16 = 36_435;
@@ -11,16 +11,11 @@ const VERSION: u16 = 36_435;
 fn checksum(block: &[u8; 512]) -> u16
     ensures { result ≡ words_sum block.now 255 % 65536 }
 {
-    let mut sum: u32 = 0;
-    for i in 0..510 {
-        let byte = block[i] as u32;
-        if i % 2 == 0 {
-            sum += byte;
-        } else {
-            sum += 256 * byte;
-        }
-    }
-    (sum % 65_536) as u16
+    let (words, _) = block[..510].as_chunks::<2>();
+    words.iter().fold(
+        0,
+        |sum: u16, word| sum.wrapping_add(u16::from_le_bytes(*word)),
+    )
 }
 
 // The home block of a new volume. Of the old one it keeps the table of bad blocks.
@@ -28,16 +23,14 @@ pub(crate) fn home_block(old: &[u8; 512]) -> [u8; 512]
     ensures { result ≡ home old.now }
 {
     let mut block = [0; 512];
-    put(&mut block, 0, &old[0..130]);
+    put(&mut block, 0, &old[..130]);
     // pack cluster size, first directory block, system version
-    put(&mut block, 466, &[1, 0]);
-    put(&mut block, 468, &[6, 0]);
-    put(&mut block, 470, &[low(VERSION), high(VERSION)]);
+    put_words(&mut block, 466, &[1, 6, VERSION]);
     // volume, owner and system identification
     put(&mut block, 472, b"RT11A       ");
     put(&mut block, 484, b"            ");
     put(&mut block, 496, b"DECRT11A    ");
     let sum = checksum(&block);
-    put(&mut block, 510, &[low(sum), high(sum)]);
+    put_words(&mut block, 510, &[sum]);
     block
 }

@@ -1,9 +1,7 @@
 // INITIALIZE: a new volume.
-ghost use Rattle.std.specs.Prelude.{◌≡◌, ◌+◌, ◌*◌, ◌≤◌, Ok, slice_set};
-ghost use Rattle.device.specs.Blocks.{good};
+ghost use Rattle.std.specs.Prelude.{◌≡◌, ◌+◌, ◌*◌, ◌≤◌, Ok};
 ghost use Rattle.device.specs.Held.{shows};
 ghost use Rattle.device.specs.Stacks.{Became};
-ghost use Rattle.volume.specs.Home.{home};
 ghost use Rattle.volume.specs.Transfers.{AllGood};
 ghost use Rattle.volume.specs.Initial.{first_segment, laid_out, init_answer, init_blocks};
 
@@ -12,21 +10,12 @@ use crate::fault::FileFault;
 use crate::home::home_block;
 use crate::level::{level_size, segments_fit};
 use crate::segment::{Header, encode_segment};
-use crate::transfer::{store_segment, sweep, zero_blocks};
+use crate::transfer::{store_segment, sweep, write_known, zero_blocks};
 use device::Device;
 use device::fault::DeviceFault;
 
-// Writes the home block, which is known to be good.
-fn write_home<D: Device>(d: &mut D, old: &[u8; 512]) -> Result<(), DeviceFault>
-    requires { AllGood (shows (D.Device.held d.old)) 1 2 }
-    ensures answer { result ≡ Ok tt }
-    ensures after { Became (D.Device.held d.old).stack (slice_set (shows (D.Device.held d.old)) 1 (good (home old.now))) (D.Device.held d.new).stack }
-    ensures fixed { D.Device.fixed d.new ≡ D.Device.fixed d.old }
-{
-    d.write(1, &home_block(old))
-}
-
 // Segment 1 of a new volume: one empty, behind the directory.
+#[tactic(auto, unfolding(crate::specs::Initial::first_segment))]
 fn first_segment(total: u16, blocks: u16) -> [u8; 1024]
     requires { (total ≤ 31) × (7 + 2 * total ≤ blocks) }
     ensures { result ≡ first_segment total blocks }
@@ -57,7 +46,7 @@ fn lay_out<D: Device>(
     ensures after { Became (D.Device.held d.old).stack (laid_out (shows (D.Device.held d.old)) total blocks old.now) (D.Device.held d.new).stack }
     ensures fixed { D.Device.fixed d.new ≡ D.Device.fixed d.old }
 {
-    write_home(d, old)?;
+    write_known(d, 1, &home_block(old))?;
     store_segment(d, 1, &first_segment(total, blocks))?;
     zero_blocks(d, 8, 2 * total as u32 - 2)
 }

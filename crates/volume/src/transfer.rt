@@ -1,5 +1,5 @@
 // Blocks read or written one after another.
-ghost use Rattle.std.specs.Prelude.{◌≡◌, ◌+◌, ◌*◌, ◌^◌, ◌<◌, ◌≤◌, take, drop, replicate, Ok, slice_set};
+ghost use Rattle.std.specs.Prelude.{◌≡◌, ◌+◌, ◌*◌, ◌^◌, ◌<◌, ◌≤◌, replicate, Ok, slice_set};
 ghost use Rattle.device.specs.Blocks.{good};
 ghost use Rattle.device.specs.Held.{shows};
 ghost use Rattle.device.specs.Stacks.{Became};
@@ -15,28 +15,24 @@ pub fn sweep<D: Device>(d: &D, b: u32, n: u32) -> Result<(), DeviceFault>
     ensures { result ≡ readable (shows (D.Device.held d.now)) b n }
 {
     let mut buffer = [0; 512];
-    for i in 0..n {
-        d.read(b + i, &mut buffer)?;
+    for k in b..b + n {
+        d.read(k, &mut buffer)?;
     }
     Ok(())
 }
 
-// Writes 512 of the bytes to block b, which is known to be good.
-fn write_part<D: Device>(
+// Writes block b, which is known to be good.
+pub(crate) fn write_known<D: Device>(
     d: &mut D,
     b: u32,
-    bytes: &[u8; 1024],
-    at: usize,
+    bytes: &[u8; 512],
 ) -> Result<(), DeviceFault>
-    requires room { at + 512 ≤ 1024 }
-    requires known { AllGood (shows (D.Device.held d.old)) b (b + 1) }
+    requires { AllGood (shows (D.Device.held d.old)) b (b + 1) }
     ensures answer { result ≡ Ok tt }
-    ensures after { Became (D.Device.held d.old).stack (slice_set (shows (D.Device.held d.old)) b (good (take 512 (drop at bytes.now)))) (D.Device.held d.new).stack }
+    ensures after { Became (D.Device.held d.old).stack (slice_set (shows (D.Device.held d.old)) b (good bytes.now)) (D.Device.held d.new).stack }
     ensures fixed { D.Device.fixed d.new ≡ D.Device.fixed d.old }
 {
-    let mut block = [0; 512];
-    block.copy_from_slice(&bytes[at..at + 512]);
-    d.write(b, &block)
+    d.write(b, bytes)
 }
 
 // Writes segment k, whose blocks are known to be good.
@@ -47,8 +43,9 @@ pub fn store_segment<D: Device>(d: &mut D, k: u32, bytes: &[u8; 1024]) -> Result
     ensures after { Became (D.Device.held d.old).stack (overwritten (shows (D.Device.held d.old)) (4 + 2 * k) (halves bytes.now)) (D.Device.held d.new).stack }
     ensures fixed { D.Device.fixed d.new ≡ D.Device.fixed d.old }
 {
-    write_part(d, 4 + 2 * k, bytes, 0)?;
-    write_part(d, 5 + 2 * k, bytes, 512)
+    let (halves, _) = bytes.as_chunks::<512>();
+    write_known(d, 4 + 2 * k, &halves[0])?;
+    write_known(d, 5 + 2 * k, &halves[1])
 }
 
 // Writes zeros to n blocks from b on, which are known to be good.
@@ -59,8 +56,8 @@ pub fn zero_blocks<D: Device>(d: &mut D, b: u32, n: u32) -> Result<(), DeviceFau
     ensures after { Became (D.Device.held d.old).stack (overwritten (shows (D.Device.held d.old)) b (replicate n (replicate 512 0))) (D.Device.held d.new).stack }
     ensures fixed { D.Device.fixed d.new ≡ D.Device.fixed d.old }
 {
-    for i in 0..n {
-        d.write(b + i, &[0; 512])?;
+    for k in b..b + n {
+        write_known(d, k, &[0; 512])?;
     }
     Ok(())
 }

@@ -3,7 +3,7 @@ use Rattle.std.proofs.lemmas.Result.{err_from_is_err_and}
 use Rattle.device.specs.Answers.{fetch}
 use Rattle.device.specs.Held.{shows}
 use Rattle.volume.proofs.Stretches.{read_ok, read_err, fetch_is_good, readable-good}
-use Rattle.volume.proofs.Initials.{fit_range, init_range, init_is, init_refused, init_done}
+use Rattle.volume.proofs.Initials.{init_range, init_is, init_refused, init_done}
 use Rattle.volume.proofs.initial.initialize.Goals as goal
 
 pub returns-then-not-segments_fit : goal.returns-then-not-segments_fit
@@ -34,16 +34,14 @@ returns-in_err-sweep g c =
     let a = init_is t c.level_size-blocks.result (shows h) c.level_size-blocks.ensures (Ok old) (Err c.in_err-sweep.field-0.0) c.if-not-segments_fit.ensures f c.in_err-sweep.ensures in
     rw (p.1, p.2) (record { answer = a; after = init_refused t h.stack _ h.whole a; fixed = cc })
 
-pub lay_out-requires : goal.lay_out-requires
-lay_out-requires g c =
-    let h = g.D.Device.held c.args.d.now in
-    let old = c.read.new.into in
+pub lay_out-requires-clause-block : goal.lay_out-requires-clause-block
+lay_out-requires-clause-block g c =
+    let bs = shows (g.D.Device.held c.args.d.now) in
     let r = c.in_ok-read.ensures in
-    record {
-      range = fit_range _ _ c.if-not-segments_fit.ensures;
-      block = fetch_is_good (shows h) 1 old (read_ok (fetch (shows h) 1) (replicate 512 0) old r.answer r.buffer);
-      directory = readable-good (shows h) 6 (2 * c.args.segments) c.in_ok-sweep.ensures;
-    }
+    fetch_is_good bs 1 c.read.new.into (read_ok (fetch bs 1) (replicate 512 0) c.read.new.into r.answer r.buffer)
+
+pub lay_out-requires-clause-directory : goal.lay_out-requires-clause-directory
+lay_out-requires-clause-directory g c = readable-good (shows (g.D.Device.held c.args.d.now)) 6 (2 * c.args.segments) c.in_ok-sweep.ensures
 
 pub returns : goal.returns
 returns g c =

@@ -1,4 +1,4 @@
-use Rattle.std.proofs.Common.{◌≡◌, ℕ, ◌+◌, ◌-◌, ◌<◌, List, [], ◌∷◌, ◌++◌, length, get_or, take, replicate, sym, refl, ap, ◌∙◌, arith}
+use Rattle.std.proofs.Common.{◌≡◌, ◌+◌, ◌-◌, ◌<◌, [], ◌∷◌, ◌++◌, length, get_or, take, replicate, sym, refl, ap, ◌∙◌, arith}
 use Rattle.std.specs.List.{flat_map}
 use Rattle.std.proofs.lemmas.List.{append-nil, length-append, take_all}
 use Rattle.codec.specs.Words.{written}
@@ -14,8 +14,8 @@ loop-e-init c =
     let zeros : c.fill.new.self ≡ replicate 1024 0 = c.fill.ensures.after (λ y h. h) ∙ ap (λ n. replicate n 0) c.requires.0 in (
       room_all c.args.h.now.extra _ c.requires.1.1,
       refl,
-      c.put.ensures ∙ ap (λ z. written z 0 c.header_bytes.result) zeros
-          ∙ ap (written (replicate 1024 0) 0) (c.header_bytes.ensures ∙ sym (append-nil (header_bytes c.args.h.now))),
+      c.put_words.ensures ∙ ap (λ z. written z 0 (header_bytes c.args.h.now)) zeros
+          ∙ ap (written (replicate 1024 0) 0) (sym (append-nil (header_bytes c.args.h.now))),
     )
 
 pub encode_entry-requires : goal.encode_entry-requires
@@ -45,10 +45,8 @@ returns c =
     let h = header_bytes c.args.h.now in
     let x = c.args.h.now.extra in
     let es = c.args.entries.now in
-    let end : ◌≡◌ {A = List ℕ} (c.low.result ∷ c.high.result ∷ []) (0 ∷ 8 ∷ [])
-    = ap (λ z. z ∷ c.high.result ∷ []) c.low.ensures ∙ ap (λ z. 0 ∷ z ∷ []) c.high.ensures in
     let all : take c.loop-e.e-index es ≡ es = take_all c.loop-e.e-index es c.loop-e-test.false in
     written-two (replicate 1024 0) 0 (h ++ flat_map (entry_bytes x) (take c.loop-e.e-index es)) (0 ∷ 8 ∷ []) _ _
-    c.loop-e.invariant.2 c.put-2.ensures end (omega arith) (omega arith)
+    c.loop-e.invariant.2 c.put_words-2.ensures refl (omega arith) (omega arith)
     ∙ ap (λ z. written (replicate 1024 0) 0 (h ++ flat_map (entry_bytes x) z ++ 0 ∷ 8 ∷ [])) all
     ∙ written_zeros 1024 (h ++ flat_map (entry_bytes x) es ++ 0 ∷ 8 ∷ [])
