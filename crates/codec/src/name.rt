@@ -3,7 +3,7 @@ ghost use Rattle.std.specs.Prelude.{◌≡◌, ◌+◌, ◌<◌, ◌≤◌, leng
 ghost use Rattle.codec.specs.Names.{code_of, character, code, rad50_at, unpacked, is_name_character, is_part, is_name, name_of, shown, NameRows, NamesComeBack, WordsComeBack};
 
 // Three words of RAD50: six characters of name, three of type.
-#[derive(Clone, Copy, Debug, PartialEq, Eq)]
+#[derive(Clone, Copy, Debug, Default, PartialEq, Eq)]
 pub struct Name {
     pub first: u16,
     pub second: u16,

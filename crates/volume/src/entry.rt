@@ -7,16 +7,17 @@ use codec::name::Name;
 use codec::words::{high, low, put};
 
 // What an entry stands for.
-#[derive(Clone, Copy, Debug, PartialEq, Eq)]
+#[derive(Clone, Copy, Debug, Default, PartialEq, Eq)]
 pub enum Status {
     Tentative,
+    #[default]
     Empty,
     Permanent,
     Protected,
 }
 
 // An entry, with zeros behind its extra bytes.
-#[derive(Clone, Copy)]
+#[derive(Clone, Copy, Default)]
 pub struct Entry {
     pub status: Status,
     pub name: Name,
