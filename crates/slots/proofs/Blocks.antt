@@ -1,18 +1,16 @@
--- The blocks of entries, counted one after another.
-use Rattle.std.proofs.Common.{◌≡◌, ℕ, ◌+◌, ◌<◌, ◌≤◌, List, ◌++◌, length, get_or, take, drop, ap, ◌∙◌, arith}
-use Rattle.std.specs.List.{between}
-use Rattle.std.proofs.lemmas.List.{drop_all, drop_more}
+-- The blocks of entries together.
+use Rattle.std.proofs.Common.{◌≡◌, ℕ, ◌+◌, ◌≤◌, List, [], ◌∷◌, ◌++◌, take, drop, sym, ap, ◌∙◌, arith}
+use Rattle.std.specs.List.{between, sum_by}
 use Rattle.std.proofs.lemmas.List.Edits.{split_between}
+use Rattle.std.proofs.lemmas.List.Sums.{sum_by-cons}
 use Rattle.volume.specs.declared.entry.Entry.{Entry}
-use Rattle.volume.proofs.Encoding.{no_entry}
 use Rattle.edits.specs.Entries.{blocks_of}
 use Rattle.edits.proofs.Counts.{blocks_nil, blocks_cons, blocks_append}
 
-pub blocks_more : (es : List Entry) (i : ℕ) → i < length es → blocks_of (drop i es) ≡ (get_or es i no_entry).length + blocks_of (drop (i + 1) es)
-blocks_more es i h = ap blocks_of (drop_more es i no_entry h) ∙ blocks_cons (get_or es i no_entry) (drop (i + 1) es)
-
-pub blocks_end : (es : List Entry) (i : ℕ) → length es ≤ i → blocks_of (drop i es) ≡ 0
-blocks_end es i h = ap blocks_of (drop_all i es h) ∙ blocks_nil
+-- they are the sum of their lengths
+pub blocks_sum : (es : List Entry) → sum_by (λ e. e.length) es ≡ blocks_of es
+blocks_sum [] = sym blocks_nil
+blocks_sum (e ∷ es) = sum_by-cons (λ x. x.length) e es ∙ ap (λ n. e.length + n) (blocks_sum es) ∙ sym (blocks_cons e es)
 
 -- a part has no more than all
 pub blocks_between : (es : List Entry) (i j : ℕ) → i ≤ j → blocks_of (between i j es) ≤ blocks_of es

@@ -1,5 +1,4 @@
 pub mod Reading
 pub mod Lawful
-mod Shifts
-pub mod Splices
+mod Splices
 pub mod Blocks

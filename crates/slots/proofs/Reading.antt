@@ -1,7 +1,7 @@
 -- The entries of a segment, decoded one after another.
-use Rattle.std.proofs.Common.{◌≡◌, ℕ, ◌+◌, ◌-◌, ◌<◌, ◌≤◌, ◌⊎◌, List, [], ◌∷◌, ◌++◌, length, get_or, take, drop, set, Some, None, Option, sym, ap, ◌∙◌, inl, inr, arith}
+use Rattle.std.proofs.Common.{◌≡◌, ℕ, ◌+◌, ◌-◌, ◌<◌, ◌≤◌, ◌⊎◌, List, [], ◌∷◌, ◌++◌, length, get_or, take, drop, Some, None, Option, sym, ap, ◌∙◌, inl, inr, arith}
 use Rattle.std.specs.Option.{option_map}
-use Rattle.std.proofs.lemmas.List.{drop_all, take_more, take_more_set, get_or-map, length-map, take_all}
+use Rattle.std.proofs.lemmas.List.{drop_all, take_more, get_or-map, length-map, take_all}
 use Rattle.std.proofs.lemmas.Bool.{cases_lt}
 use Rattle.codec.specs.Words.{word_at}
 use Rattle.volume.specs.declared.entry.Entry.{Entry}
@@ -56,10 +56,9 @@ module _ (x : ℕ) (dir : List ℕ) (k : ℕ) (r : Readable x dir k) where
             absurd (let z : ◌≡◌ {A = ℕ} 0 1 = cc in omega arith)
 
     -- one more entry is read
-    pub read_more : (e : Entry) (ys : List Entry) → Some e ≡ entry_of x (drop (entry_start x i) (segment_at dir k)) → i < length ys
-        → take i ys ≡ take i (value_at x dir k)
-        → (i + 1 ≤ length (value_at x dir k)) × (take (i + 1) (set ys i (cleaned e)) ≡ take (i + 1) (value_at x dir k))
-    read_more e ys h m q =
+    pub read_more : (e : Entry) → Some e ≡ entry_of x (drop (entry_start x i) (segment_at dir k))
+        → (i + 1 ≤ length (value_at x dir k)) × (take i (value_at x dir k) ++ cleaned e ∷ [] ≡ take (i + 1) (value_at x dir k))
+    read_more e h =
         let g = goes_on e h in
         let f : Some e ≡ Some (get_or (entries_at x dir k) i no_entry) = h ∙ entry_at x (segment_at dir k) (entries_at x dir k) read i g in
         let f₁ : e ≡ get_or (entries_at x dir k) i no_entry = cc in
@@ -67,15 +66,12 @@ module _ (x : ℕ) (dir : List ℕ) (k : ℕ) (r : Readable x dir k) where
         let c : cleaned e ≡ get_or (value_at x dir k) i no_entry
         = ap cleaned f₁ ∙ sym (get_or-map cleaned (entries_at x dir k) i no_entry no_entry g) in (
           omega arith,
-          take_more_set ys i (cleaned e) m ∙ ap (λ (z : List Entry). z ++ cleaned e ∷ []) q
-              ∙ ap (λ (z : Entry). take i (value_at x dir k) ++ z ∷ []) c
-              ∙ sym (take_more (value_at x dir k) i no_entry v),
+          ap (λ (z : Entry). take i (value_at x dir k) ++ z ∷ []) c ∙ sym (take_more (value_at x dir k) i no_entry v),
         )
 
     -- where none is found all have been read
-    pub read_end : (ys : List Entry) → None ≡ entry_of x (drop (entry_start x i) (segment_at dir k)) → take i ys ≡ take i (value_at x dir k)
-        → take i ys ≡ value_at x dir k
-    read_end ys h q = q ∙ take_all i (value_at x dir k) (go (cases_lt i (length (entries_at x dir k))))
+    pub read_end : None ≡ entry_of x (drop (entry_start x i) (segment_at dir k)) → take i (value_at x dir k) ≡ value_at x dir k
+    read_end h = take_all i (value_at x dir k) (go (cases_lt i (length (entries_at x dir k))))
       where
         go : (i < length (entries_at x dir k)) ⊎ (length (entries_at x dir k) ≤ i) → length (value_at x dir k) ≤ i
         go (inr m) = omega (arith, length-map (entries_at x dir k) cleaned)
@@ -83,7 +79,3 @@ module _ (x : ℕ) (dir : List ℕ) (k : ℕ) (r : Readable x dir k) where
             let f : ◌≡◌ {A = Option Entry} None (Some (get_or (entries_at x dir k) i no_entry))
             = h ∙ entry_at x (segment_at dir k) (entries_at x dir k) read i m in
             absurd (let z : ◌≡◌ {A = ℕ} 0 1 = cc in omega arith)
-
-    -- a full segment has been read
-    pub read_full : (ys : List Entry) → i ≡ capacity_of x → take i ys ≡ take i (value_at x dir k) → take i ys ≡ value_at x dir k
-    read_full ys h q = q ∙ take_all i (value_at x dir k) (omega (arith, few))

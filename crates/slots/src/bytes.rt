@@ -1,11 +1,14 @@
 // The entries of a segment, read from the directory and written to it.
 ghost use Rattle.std.specs.Prelude.{◌≡◌, ◌-◌, ◌*◌, ◌≤◌, length, take, drop};
+ghost use Rattle.arrayvec.specs.ArrayVec.{array_vec_len};
 ghost use Rattle.codec.specs.Words.{written};
 ghost use Rattle.volume.specs.Segments.{capacity_of, segment_bytes};
 ghost use Rattle.directory.specs.Walks.{Readable};
+ghost use Rattle.edits.specs.Entries.{is_empty};
 ghost use Rattle.edits.specs.Values.{cleaned, value_at};
-ghost use Rattle.slots.specs.Slots.{slot_entries, header_at};
+ghost use Rattle.slots.specs.Slots.{header_at};
 
+use arrayvec::ArrayVec;
 use codec::words::{put, word_at};
 use segment::chain::segment_at;
 use segment::entry::decode_entry;
@@ -13,44 +16,38 @@ use segment::walk::entry_start;
 use volume::entry::{Entry, Status, empty_of};
 use volume::segment::{Header, capacity, encode_segment};
 
-// The entries of a segment: the first of 72, as many as the count says.
-#[derive(Clone, Copy)]
-pub struct Slots {
-    pub count: usize,
-    pub entries: [Entry; 72],
-}
+// The entries of a segment, which has room for 72 at most.
+pub type Slots = ArrayVec<Entry, 72>;
 
 // An entry as it is written again: an empty is zero but for status and length.
 fn cleaned(e: Entry) -> Entry
     ensures { result ≡ cleaned e }
 {
-    match e.status {
-        Status::Tentative => e,
-        Status::Empty => empty_of(e.length),
-        Status::Permanent => e,
-        Status::Protected => e,
-    }
+    if is_empty(&e) { empty_of(e.length) } else { e }
+}
+
+// Whether an entry is empty.
+pub(crate) fn is_empty(e: &Entry) -> bool
+    ensures { result ≡ is_empty e.now }
+{
+    matches!(e.status, Status::Empty)
 }
 
 // The entries of a segment. For our other crates: the caller has found the segment lawful.
 pub fn entries_at(dir: &[u8], k: usize, extra: u16) -> Slots
     requires { (Readable extra dir.now k) × (extra ≤ 64) }
-    ensures entries { slot_entries result ≡ value_at extra dir.now k }
-    ensures room { (result.count ≤ capacity_of extra) × (result.count ≤ 72) }
+    ensures entries { result.items ≡ value_at extra dir.now k }
+    ensures room { array_vec_len result ≤ capacity_of extra }
 {
     let segment = segment_at(dir, k);
-    let most = capacity(extra);
-    let mut entries = [empty_of(0); 72];
-    for i in 0..most {
+    let mut entries = Slots::new();
+    for i in 0..capacity(extra) {
         let Some(e) = decode_entry(segment, entry_start(i, extra), extra) else {
-            return Slots { count: i, entries };
+            return entries;
         };
-        entries[i] = cleaned(e);
+        entries.push(cleaned(e));
     }
-    Slots {
-        count: most,
-        entries,
-    }
+    entries
 }
 
 // The header of a segment: total, highest and extra are those of segment 1. For our other crates: the caller has checked
@@ -80,29 +77,28 @@ pub fn put_segment(dir: &mut [u8], k: usize, header: &Header, entries: &[Entry])
     put(dir, 1024 * (k - 1), &segment);
 }
 
-// All entries. For our other crates, as those below: there are at most 72.
+// All entries. For our other crates, as those below.
 pub fn all_entries(s: &Slots) -> &[Entry]
-    requires { s.now.count ≤ 72 }
-    ensures entries { result.now ≡ slot_entries s.now }
-    ensures long { length result.now ≡ s.now.count }
+    ensures entries { result.now ≡ s.now.items }
+    ensures long { length result.now ≡ array_vec_len s.now }
 {
-    &s.entries[0..s.count]
+    &s[..]
 }
 
 // The first n entries.
 pub fn first_entries(s: &Slots, n: usize) -> &[Entry]
-    requires { (n ≤ s.now.count) × (s.now.count ≤ 72) }
-    ensures entries { result.now ≡ take n (slot_entries s.now) }
+    requires { n ≤ array_vec_len s.now }
+    ensures entries { result.now ≡ take n s.now.items }
     ensures long { length result.now ≡ n }
 {
-    &s.entries[0..n]
+    &s[..n]
 }
 
 // The entries behind the first n.
 pub fn last_entries(s: &Slots, n: usize) -> &[Entry]
-    requires { (n ≤ s.now.count) × (s.now.count ≤ 72) }
-    ensures entries { result.now ≡ drop n (slot_entries s.now) }
-    ensures long { length result.now ≡ s.now.count - n }
+    requires { n ≤ array_vec_len s.now }
+    ensures entries { result.now ≡ drop n s.now.items }
+    ensures long { length result.now ≡ array_vec_len s.now - n }
 {
-    &s.entries[n..s.count]
+    &s[n..]
 }

@@ -21,14 +21,11 @@ pub fn store_from<D: Device>(d: &mut D, dir: &[u8], k: usize) -> Result<(), Devi
     ensures after { Became (D.Device.held d.old).stack (overwritten (shows (D.Device.held d.old)) (4 + 2 * k) (halves (segment_at dir.now k))) (D.Device.held d.new).stack }
     ensures fixed { D.Device.fixed d.new ≡ D.Device.fixed d.old }
 {
-    let mut bytes = [0; 1024];
-    bytes.copy_from_slice(segment_at(dir, k));
-    store_segment(d, k as u32, &bytes)
+    let bytes = segment_at(dir, k).as_array().unwrap();
+    store_segment(d, k as u32, bytes)
 }
 
 // The directory that is read from the blocks is the one that was written.
-pub fn rewritten_reads() -> u8
+pub fn rewritten_reads()
     ensures { RewrittenReads }
-{
-    0
-}
+{}

@@ -1,9 +1,10 @@
-use Rattle.std.proofs.Common.{◌∙◌}
+use Rattle.std.proofs.Common.{◌≡◌, ap, ◌∙◌, rules}
 use Rattle.edits.specs.Edits.{emptied}
-use Rattle.changes.proofs.Written.{put_with}
+use Rattle.changes.proofs.Written.{changed_by}
 use Rattle.changes.proofs.rewrite.empty_at.Goals as goal
 
 pub returns : goal.returns
 returns c =
-    put_with c.args.dir.now c.args.k c.header_at-header.result c.header_at-header.ensures _ c.entries_at-slots.ensures.entries
-    (emptied c.args.i) _ c.put_segment.new.dir (c.all_entries.ensures.entries ∙ c.make_empty.ensures.entries) c.put_segment.ensures
+    let made = c.rewrite.ensures in
+    let edited : made.1.items ≡ emptied c.args.i made.0.items = search rules in
+    changed_by c.args.dir.now c.args.k (emptied c.args.i) made.1.items c.rewrite.new.dir (edited ∙ ap (emptied c.args.i) made.2) made.4

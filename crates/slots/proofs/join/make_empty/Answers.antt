@@ -1,23 +1,24 @@
-use Rattle.std.proofs.Common.{◌≡◌, ◌-◌, take, ap, ◌∙◌, arith}
-use native.Mathlib.Nat.{sub-zero}
+use Rattle.std.proofs.Common.{ap, ◌∙◌, arith, rules}
 use Rattle.std.specs.List.{between}
-use Rattle.edits.specs.Entries.{empty_of, blocks_of}
-use Rattle.edits.specs.Edits.{run_start, run_end}
+use Rattle.volume.specs.declared.entry.Entry.{Entry}
+use Rattle.std.specs.List.{sum_by}
+use Rattle.edits.specs.Entries.{empty_of}
+use Rattle.slots.proofs.Blocks.{blocks_sum, blocks_between}
 use Rattle.slots.proofs.Splices.{emptied_is}
 use Rattle.slots.proofs.join.make_empty.Goals as goal
 
-pub returns : goal.returns
-returns c =
-    let xs = c.args.s.now.entries in
-    let n = c.args.s.now.count in
-    let i = c.args.i in
-    let z : take (n - 0) xs ≡ take n xs = ap (λ k. take k xs) (sub-zero n) in
-    record {
-      entries =
-          c.close_up.ensures
-          ∙ emptied_is xs n i c.run_start-from.result c.run_end-to.result c.empty_of.result (omega arith) (omega arith) (omega arith)
-          (c.run_start-from.ensures.0 ∙ ap (λ es. run_start es i) z)
-          (c.run_end-to.ensures.0 ∙ ap (λ es. run_end es i) z)
-          (c.empty_of.ensures ∙ ap empty_of (c.run_blocks-blocks.ensures ∙ ap (λ es. blocks_of (between c.run_start-from.result c.run_end-to.result es)) z));
-      count = (omega arith, omega arith);
-    }
+pub blocks_of-blocks-requires : goal.blocks_of-blocks-requires
+blocks_of-blocks-requires c =
+    let from = c.run_start-from.result in
+    let to = c.run_end-to.result in
+    let same = ap (λ es. sum_by (λ (e : Entry). e.length) (between from to es)) c.deref-3.ensures.0 in
+    omega (arith, same, blocks_sum (between from to c.args.s.now.items), blocks_between c.args.s.now.items from to (omega arith))
+
+pub returns-clause-entries : goal.returns-clause-entries
+returns-clause-entries c =
+    let from = c.run_start-from.result in
+    let to = c.run_end-to.result in
+    let same = ap (λ es. sum_by (λ (e : Entry). e.length) (between from to es)) c.deref-3.ensures.0 in
+    emptied_is c.args.s.now.items _ _ c.args.i from to c.empty_of.result (search rules) c.insert.ensures.items (omega arith)
+    (search rules) (search rules)
+    (c.empty_of.ensures ∙ ap empty_of (c.blocks_of-blocks.ensures ∙ same ∙ blocks_sum (between from to c.args.s.now.items)))

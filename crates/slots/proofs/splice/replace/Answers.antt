@@ -1,10 +1,5 @@
-use Rattle.std.proofs.Common.{refl, arith}
-use Rattle.slots.proofs.Splices.{spliced-one}
+use Rattle.slots.proofs.Splices.{written_is}
 use Rattle.slots.proofs.splice.replace.Goals as goal
 
-pub returns : goal.returns
-returns c =
-    record {
-      entries = spliced-one c.args.s.now.entries c.args.s.now.count c.args.i (omega arith) c.requires.0 c.args.e;
-      count = refl;
-    }
+pub returns-clause-entries : goal.returns-clause-entries
+returns-clause-entries c = written_is c.args.s.now c.deref_mut.result.now c.args.i c.args.e c.deref_mut.ensures.value c.requires
