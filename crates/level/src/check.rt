@@ -9,7 +9,7 @@ ghost use Rattle.level.specs.Checks.{check_answer};
 use crate::load::{directory_of, load};
 use device::Device;
 use directory::pending::Pending;
-use directory::rules::broken_rule;
+use directory::rules::check_rules;
 use volume::fault::FileFault;
 use volume::level::level_size;
 
@@ -23,6 +23,6 @@ pub fn check<D: Device>(d: &D, work: &mut [u8], output: Option<Pending>) -> Resu
     ensures range { IfOk result (λ s. (1 ≤ s) × (s ≤ 31) × (32768 ≤ length work.old)) }
 {
     let total = load(d, work)?;
-    broken_rule(directory_of(work, total), level_size(d), output)?;
+    check_rules(directory_of(work, total), level_size(d), output)?;
     Ok(total)
 }

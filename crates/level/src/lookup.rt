@@ -8,7 +8,7 @@ use crate::load::directory_of;
 use codec::name::Name;
 use device::Device;
 use directory::pending::Pending;
-use directory::sound::find_file;
+use directory::sound::Sound;
 use volume::fault::FileFault;
 
 // LOOKUP: where the file of a name starts, how many blocks it has, and its date word.
@@ -26,7 +26,10 @@ pub fn lookup<D: Device>(
     }
     let name = Name::from_bytes(name)?;
     let total = check(d, work, output)?;
-    let file = find_file(directory_of(work, total), name).ok_or(FileFault::NoSuchFile)?;
+    let directory = Sound::new(directory_of(work, total));
+    let Some(file) = directory.find_file(name) else {
+        return Err(FileFault::NoSuchFile);
+    };
     Ok((file.start, file.length, file.date))
 }
 

@@ -18,19 +18,19 @@ returns-in_err-total g c =
     let p = err_from_is_err_and c.from_residual-in_err-total.result c.from_residual-in_err-total.ensures.1 in
     rw (p.1, p.2) (record { answer = look_refused (length c.args.work.now) (shows (g.D.Device.held c.args.d.now)) c.args.output c.args.name.now (omega arith) _ c.in_ok-name.ensures _ c.in_err-total.ensures.answer; start = tt })
 
-pub find_file-requires : goal.find_file-requires
-find_file-requires g c = subst SoundBytes (sym c.directory_of.ensures) c.in_ok-total.ensures.sound
+pub new-directory-requires : goal.new-directory-requires
+new-directory-requires g c = subst SoundBytes (sym c.directory_of.ensures) c.in_ok-total.ensures.sound
 
-pub returns-in-None : goal.returns-in-None
-returns-in-None g c =
+pub returns-in_default : goal.returns-in_default
+returns-in_default g c =
     record {
-      answer = look_found (length c.args.work.now) (shows (g.D.Device.held c.args.d.now)) c.args.output c.args.name.now (omega arith) _ c.in_ok-name.ensures _ c.in_ok-total.ensures.answer None _ c.in-None.ensures.file (c.directory_of.ensures ∙ c.in_ok-total.ensures.bytes);
+      answer = look_found (length c.args.work.now) (shows (g.D.Device.held c.args.d.now)) c.args.output c.args.name.now (omega arith) _ c.in_ok-name.ensures _ c.in_ok-total.ensures.answer None _ c.in_default.ensures.file (c.new-directory.ensures ∙ c.directory_of.ensures ∙ c.in_ok-total.ensures.bytes);
       start = tt;
     }
 
-pub returns-in-Some : goal.returns-in-Some
-returns-in-Some g c =
+pub returns : goal.returns
+returns g c =
     record {
-      answer = look_found (length c.args.work.now) (shows (g.D.Device.held c.args.d.now)) c.args.output c.args.name.now (omega arith) _ c.in_ok-name.ensures _ c.in_ok-total.ensures.answer (Some c.in-Some.file) _ c.in-Some.ensures.file (c.directory_of.ensures ∙ c.in_ok-total.ensures.bytes);
+      answer = look_found (length c.args.work.now) (shows (g.D.Device.held c.args.d.now)) c.args.output c.args.name.now (omega arith) _ c.in_ok-name.ensures _ c.in_ok-total.ensures.answer (Some c.in-Some.file) _ c.in-Some.ensures.file (c.new-directory.ensures ∙ c.directory_of.ensures ∙ c.in_ok-total.ensures.bytes);
       start = c.in-Some.ensures.start;
     }
