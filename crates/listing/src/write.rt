@@ -1,17 +1,16 @@
 // The listing of a directory, written to the caller's buffer.
 ghost use Rattle.std.specs.Prelude.{◌≡◌, ◌+◌, ◌*◌, ◌<◌, ◌≤◌, ◌++◌, length};
 ghost use Rattle.codec.specs.Words.{written};
-ghost use Rattle.directory.specs.Walks.{left, spot, OnWay};
+ghost use Rattle.directory.specs.Entries.{entries_left};
 ghost use Rattle.listing.specs.Listings.{plain, file_lines, total_line, listing, listing_answer, listing_after};
 ghost use Rattle.listing.specs.Rows.{ListingRows};
 
 use crate::digits::put_plain;
 use crate::line::file_line;
-use crate::totals::{Totals, totals_from};
+use crate::totals::{Totals, totals_of};
 use codec::words::put;
 use directory::find::is_file;
-use directory::placed::Spot;
-use directory::walk::next_entry;
+use directory::walk::Entries;
 
 // Writes a word and a number behind it at a place, and tells the place behind both.
 fn put_counted(out: &mut [u8], at: usize, word: &[u8], n: u32) -> usize
@@ -38,50 +37,30 @@ fn put_totals(out: &mut [u8], totals: Totals) -> usize
     end + 1
 }
 
-// Writes the lines of the files from a spot on. The caller has seen that there is room.
-fn put_lines(dir: &[u8], order: &[usize], extra: u16, from: Spot, out: &mut [u8])
-    requires way { OnWay extra dir.now order.now from }
-    requires room { length (file_lines (left extra dir.now order.now from)) ≤ length out.old }
-    ensures { out.new ≡ written out.old 0 (file_lines (left extra dir.now order.now from)) }
+// Writes the lines of the files among some entries. The caller has seen that there is room.
+fn put_lines(entries: Entries, out: &mut [u8])
+    requires { length (file_lines (entries_left entries)) ≤ length out.old }
+    ensures { out.new ≡ written out.old 0 (file_lines (entries_left entries.entry)) }
 {
-    let mut at = 0;
-    let mut spot = from;
-    while let Some((entry, next)) = next_entry(dir, order, extra, spot) {
-        if is_file(entry) {
-            put(out, at, &file_line(entry));
-            at += 30;
-        }
-        spot = next;
+    for (i, entry) in entries.filter(|e| is_file(*e)).enumerate() {
+        put(out, 30 * i, &file_line(entry));
     }
 }
 
-// Writes the listing of a directory whose first entry starts at a block: a line for each file in chain order, and a last line of
-// the number of files, their blocks and the free blocks. Tells its length, or leaves the buffer as it is where that is too short.
-// For our other crates: the caller has found the segments of the chain lawful.
-pub fn write_listing(
-    dir: &[u8],
-    order: &[usize],
-    extra: u16,
-    first: u32,
-    out: &mut [u8],
-) -> Option<usize>
-    requires { OnWay extra dir.now order.now (spot 0 0 first) }
-    ensures answer { result ≡ listing_answer (listing (left extra dir.now order.now (spot 0 0 first))) (length out.old) }
-    ensures after { out.new ≡ listing_after (listing (left extra dir.now order.now (spot 0 0 first))) out.old }
+// Writes the listing of a directory: a line for each file in chain order, and a last line of the number of files, their blocks and
+// the free blocks. Tells its length, or leaves the buffer as it is where that is too short.
+pub fn write_listing(entries: Entries, out: &mut [u8]) -> Option<usize>
+    ensures answer { result ≡ listing_answer (listing (entries_left entries)) (length out.old) }
+    ensures after { out.new ≡ listing_after (listing (entries_left entries)) out.old }
 {
-    let from = Spot {
-        place: 0,
-        index: 0,
-        start: first,
-    };
-    let totals = totals_from(dir, order, extra, from);
+    let totals = totals_of(entries);
     let lines = 30 * totals.files as usize;
     let mut last = [0; 49];
     let length = put_totals(&mut last, totals);
     if out.len() < lines + length {
         return None;
     }
-    put_lines(dir, order, extra, from, out);
+    put_lines(entries, out);
     put(out, lines, &last[..length]);
     Some(lines + length)
 }
