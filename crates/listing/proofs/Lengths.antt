@@ -1,8 +1,8 @@
 -- A file's line has 30 bytes.
-use Rattle.std.proofs.Common.{◌≡◌, ℕ, ◌<◌, Bool, true, false, cond, List, length, Some, None, Option, sym, refl, ap, arith}
+use Rattle.std.proofs.Common.{◌≡◌, ℕ, ◌<◌, Bool, true, false, cond, List, length, Some, None, Ok, Err, Option, Result, sym, refl, ap, arith}
 use Rattle.std.proofs.lemmas.List.{length-append}
-use Rattle.codec.specs.declared.date.Dating.{Dating}
-use Rattle.codec.specs.declared.date.Dating.TheVariants.{Undated, On}
+use Rattle.codec.specs.declared.date.Date.{Date}
+use Rattle.codec.specs.declared.date.UnlawfulDate.{UnlawfulDate}
 use Rattle.codec.specs.declared.name.Name.{Name}
 use Rattle.codec.specs.Dates.{dated_of}
 use Rattle.codec.specs.Names.{shown}
@@ -21,11 +21,11 @@ either_way false n = refl
 length_month : (m : ℕ) → length (month_name m) ≡ 3
 length_month m = simp (length_either, either_way)
 
-length_dating : (o : Option Dating) → length (dating_text o) ≡ 11
+length_dating : (r : Result (Option Date) UnlawfulDate) → length (dating_text r) ≡ 11
 unfolding day_text
-length_dating None = refl
-length_dating (Some Undated) = refl
-length_dating (Some (On d)) = simp length-append (omega (arith, length_month d.month))
+length_dating (Err e) = refl
+length_dating (Ok None) = refl
+length_dating (Ok (Some d)) = simp length-append (omega (arith, length_month d.month))
 
 length_date : (w : ℕ) → length (date_text w) ≡ 11
 unfolding date_text

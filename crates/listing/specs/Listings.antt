@@ -1,9 +1,8 @@
 -- The listing of a directory, to the byte.
-use Rattle.std.specs.Prelude.{ℕ, ◌+◌, ◌-◌, ◌/◌, ◌%◌, Bool, true, false, cond, List, [], ◌∷◌, ◌++◌, length, take, drop, replicate, Some, None, codes, decimal, filter, Option, ◌==◌, nat_le}
+use Rattle.std.specs.Prelude.{ℕ, ◌+◌, ◌-◌, ◌/◌, ◌%◌, Bool, true, false, cond, List, [], ◌∷◌, ◌++◌, length, take, drop, replicate, Some, None, Ok, Err, codes, decimal, filter, Option, Result, ◌==◌, nat_le}
 use Rattle.std.specs.List.{flat_map}
 use Rattle.codec.specs.declared.date.Date.{Date}
-use Rattle.codec.specs.declared.date.Dating.{Dating}
-use Rattle.codec.specs.declared.date.Dating.TheVariants.{Undated, On}
+use Rattle.codec.specs.declared.date.UnlawfulDate.{UnlawfulDate}
 use Rattle.codec.specs.declared.name.Name.{Name}
 use Rattle.codec.specs.Dates.{dated_of}
 use Rattle.codec.specs.Digits.{digit_at, two}
@@ -45,10 +44,10 @@ unfoldable pub day_text : Date → List ℕ
 day_text d = two d.day ++ (45 ∷ (month_name d.month ++ (45 ∷ four d.year)))
 
 -- no date is eleven blanks, an unlawful one question marks
-abbrev pub dating_text : Option Dating → List ℕ
-dating_text None = codes "??-???-????"
-dating_text (Some Undated) = replicate 11 32
-dating_text (Some (On d)) = day_text d
+abbrev pub dating_text : Result (Option Date) UnlawfulDate → List ℕ
+dating_text (Ok None) = replicate 11 32
+dating_text (Ok (Some d)) = day_text d
+dating_text (Err e) = codes "??-???-????"
 
 -- what a date word shows as
 unfoldable pub date_text : ℕ → List ℕ

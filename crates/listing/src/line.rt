@@ -3,7 +3,7 @@ ghost use Rattle.std.specs.Prelude.{◌≡◌};
 ghost use Rattle.listing.specs.Listings.{month_name, day_text, date_text, mark, name_text, file_line};
 
 use crate::digits::right_in_five;
-use codec::date::{Date, Dating, dated};
+use codec::date::{Date, UnlawfulDate, dated};
 use codec::digits::digit;
 use codec::name::Name;
 use codec::words::put;
@@ -54,15 +54,14 @@ fn day_text(date: Date) -> [u8; 11]
 }
 
 // What a date word shows as: no date is eleven blanks, and an unlawful one question marks.
+#[tactic(auto, unfolding(crate::specs::Listings::date_text))]
 fn date_text(word: u16) -> [u8; 11]
     ensures { result ≡ date_text word }
 {
-    let Some(dating) = dated(word) else {
-        return *b"??-???-????";
-    };
-    match dating {
-        Dating::Undated => [b' '; 11],
-        Dating::On(date) => day_text(date),
+    match dated(word) {
+        Ok(None) => [b' '; 11],
+        Ok(Some(date)) => day_text(date),
+        Err(UnlawfulDate) => *b"??-???-????",
     }
 }
 
@@ -70,12 +69,7 @@ fn date_text(word: u16) -> [u8; 11]
 fn mark(status: Status) -> u8
     ensures { result ≡ mark status }
 {
-    match status {
-        Status::Tentative => b' ',
-        Status::Empty => b' ',
-        Status::Permanent => b' ',
-        Status::Protected => b'P',
-    }
+    if status.is_protected() { b'P' } else { b' ' }
 }
 
 // Six characters of name, a point and three of type.

@@ -1,6 +1,6 @@
 // Date words.
 use crate::paper::{Octal, heading};
-use codec::date::{Date, Dating, dated};
+use codec::date::{Date, UnlawfulDate, dated};
 use std::{fmt, io};
 
 // What a date word says.
@@ -10,9 +10,9 @@ pub(crate) struct DateWord(pub(crate) u16);
 impl fmt::Display for DateWord {
     fn fmt<W: fmt::Write>(&self, f: &mut fmt::Formatter<W>) -> fmt::Result {
         match dated(self.0) {
-            Some(Dating::Undated) => f.write_str("no date"),
-            Some(Dating::On(date)) => write_day(date, f),
-            None => f.write_str("unlawful"),
+            Ok(None) => f.write_str("no date"),
+            Ok(Some(date)) => write_day(date, f),
+            Err(UnlawfulDate) => f.write_str("unlawful"),
         }
     }
 }
