@@ -1,6 +1,6 @@
 -- The deepest level is one window of the device.
 use Rattle.std.proofs.Common.{◌≡◌, ℕ, zero, suc, ◌+◌, ◌<◌, ◌≤◌, Bool, true, false, cond, eqb, leb, List, length, get_or, set, Ok, Err, sym, refl, ap, ◌∙◌, arith}
-use Rattle.std.proofs.lemmas.Bool.{cond-false, eqb-true, eqb-false, ne_eqb, leb-true}
+use Rattle.std.proofs.lemmas.Bool.{cond-false, cond_both, eqb-true, eqb-false, ne_eqb, leb-true}
 use Rattle.device.specs.declared.fault.DeviceFault.TheVariants.{PastEnd, BadBlock}
 use Rattle.device.specs.declared.level.Level.{Level}
 use Rattle.device.specs.Blocks.{Block, none, good, Whole, is_bad}
@@ -11,7 +11,8 @@ use Rattle.device.proofs.Fetches.{fetch_past, fetch_below}
 use Rattle.layers.specs.Windows.{window, window_count, length-window}
 use Rattle.layers.specs.Nested.{at, origin, Nested}
 use Rattle.layers.specs.LevelStacks.{exactly, over_depth, over_levels, levels_count, length-exactly}
-use Rattle.layers.proofs.Elsewhere.{elsewhere}
+use Rattle.layers.specs.Parts.{PartIsThere, elsewhere, part_fetch, part_stored}
+use Rattle.layers.proofs.Parts.{parted, parted_stored}
 use Rattle.layers.proofs.Nests.{origin_inside}
 use Rattle.layers.proofs.NestedWindows.{all_shown, nested_seen, nested_kept, exactly-seen, exactly-kept}
 use Rattle.layers.proofs.WindowLaws.{window-fetch, window-kept}
@@ -55,6 +56,9 @@ depth_none rs (suc d) k h =
     go : (t : Bool) → leb (s + n) 0 ≡ t → cond t n 0 ≡ 0
     go true e = omega (arith, leb-true (s + n) 0 e)
     go false e = refl
+
+levels_few : (t : Table) (m : ℕ) → levels_count t m ≤ (at t.records t.depth).length
+levels_few t m = cond_both (eqb m (at t.records 0).length) (at t.records t.depth).length 0 (λ x. x ≤ (at t.records t.depth).length) (λ e. omega arith) (λ e. omega arith)
 
 pub levels_stand : (t : Table) (m b : ℕ) → b < levels_count t m → (m ≡ (at t.records 0).length) × (b < (at t.records t.depth).length)
 levels_stand t m b = go (eqb m (at t.records 0).length) refl
@@ -116,3 +120,19 @@ module _ (t : Table) (i : Nested t.records t.depth) (k : Stack) (w : Whole (show
             ∙ ap (λ (m : List Block). over_levels t (put k (kept (window first long) (shown k) (set m b (good from)))))
             (sym (depth_shown t.records t.depth i k w fits t.depth (omega arith)))
             ∙ sym (depth_put t.records t.depth i k w fits t.depth (omega arith) (set (shown (over_levels t k)) b (good from)))
+
+  -- the blocks of the deepest level are there, or none is shown
+  pub levels_there : PartIsThere first (levels_count t (length (shown k))) (length (shown k))
+  levels_there h =
+      let i = levels_stand t (length (shown k)) 0 h in
+      omega (arith, ends i.0, levels_few t (length (shown k)))
+
+  module _ (b : ℕ) where
+    pub levels_parts : fetch (shown (over_levels t k)) b ≡ part_fetch first (levels_count t (length (shown k))) (shown k) b
+    levels_parts = parted b _ _ (levels_past b) (fetch (shown k) (first + b)) (levels_fetch b)
+
+    pub levels_parts_stored : (j : Stack) (from : List ℕ) → length from ≡ 512 → j ≡ part_stored first (levels_count t (length (shown k))) k b from
+        → over_levels t j ≡ stored (fetch (shown (over_levels t k)) b) (over_levels t k) b from
+    levels_parts_stored j from l =
+        parted_stored b _ _ (levels_past b) (over_levels t) k j (stored (fetch (shown k) (first + b)) k (first + b) from) from
+        (λ h p. levels_stored b h j from l p)

@@ -3,8 +3,9 @@ ghost use Rattle.std.specs.Prelude.{◌≡◌, ℕ, ◌+◌, length};
 ghost use Rattle.device.specs.Held.{shows};
 ghost use Rattle.device.specs.Fixed.{tabled};
 ghost use Rattle.layers.specs.Mounts.{table, new_table, mount_answer, mount_table, dismount_answer, dismount_table};
-ghost use Rattle.layers.specs.LevelStacks.{levels_standing, levels_count, held_levels};
+ghost use Rattle.layers.specs.LevelStacks.{levels_standing, held_levels};
 
+use crate::part::{read_part, write_part};
 use crate::table::{LevelFault, LevelTable};
 use device::Device;
 use device::fault::DeviceFault;
@@ -69,16 +70,6 @@ impl<D: Device> Levels<D> {
     {
         self.table.dismount()
     }
-
-    // How many blocks it shows.
-    fn blocks(&self) -> u32
-        ensures { result ≡ levels_count (table self.now.table.depth self.now.table.records) (length (shows (D.Device.held self.now.below))) }
-    {
-        match self.standing() {
-            Standing::Stands => self.table.deepest().length,
-            Standing::DoesNotFit => 0,
-        }
-    }
 }
 
 impl<D: Device> Device for Levels<D> {
@@ -87,28 +78,18 @@ impl<D: Device> Device for Levels<D> {
     ghost fixed = { λ l. tabled (table l.table.depth l.table.records) (D.Device.fixed l.below) };
 
     fn size(&self) -> u32 {
-        self.blocks()
+        match self.standing() {
+            Standing::Stands => self.table.deepest().length,
+            Standing::DoesNotFit => 0,
+        }
     }
 
     fn read(&self, b: u32, into: &mut [u8; 512]) -> Result<(), DeviceFault> {
-        if b >= self.blocks() {
-            return Err(DeviceFault::PastEnd(b));
-        }
-        let at = self.table.origin() + b;
-        match self.below.read(at, into) {
-            Ok(()) => Ok(()),
-            Err(_) => Err(DeviceFault::BadBlock(b)),
-        }
+        read_part(&self.below, self.table.origin(), self.size(), b, into)
     }
 
     fn write(&mut self, b: u32, from: &[u8; 512]) -> Result<(), DeviceFault> {
-        if b >= self.blocks() {
-            return Err(DeviceFault::PastEnd(b));
-        }
-        let at = self.table.origin() + b;
-        match self.below.write(at, from) {
-            Ok(()) => Ok(()),
-            Err(_) => Err(DeviceFault::BadBlock(b)),
-        }
+        let count = (*self).size();
+        write_part(&mut self.below, self.table.origin(), count, b, from)
     }
 }
