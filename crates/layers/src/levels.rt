@@ -2,7 +2,7 @@
 ghost use Rattle.std.specs.Prelude.{◌≡◌, ℕ, ◌+◌, length};
 ghost use Rattle.device.specs.Held.{shows};
 ghost use Rattle.device.specs.Fixed.{tabled};
-ghost use Rattle.layers.specs.Mounts.{table, new_table, mount_answer, mount_table, dismount_answer, dismount_table};
+ghost use Rattle.layers.specs.Mounts.{new_table, mount_answer, mount_table, dismount_answer, dismount_table};
 ghost use Rattle.layers.specs.LevelStacks.{levels_standing, held_levels};
 
 use crate::part::{read_part, write_part};
@@ -22,7 +22,7 @@ impl<D: Device> Levels<D> {
     // With no container mounted.
     pub fn over(below: D) -> Levels<D>
         ensures below { result.below ≡ below }
-        ensures table { table result.table.depth result.table.records ≡ new_table (length (shows (D.Device.held below))) }
+        ensures table { result.table ≡ new_table (length (shows (D.Device.held below))) }
     {
         let table = LevelTable::new(below.size());
         Levels { below, table }
@@ -30,7 +30,7 @@ impl<D: Device> Levels<D> {
 
     // Whether what is below has as many blocks as when the table was made.
     pub fn standing(&self) -> Standing
-        ensures { result ≡ levels_standing (table self.now.table.depth self.now.table.records) (length (shows (D.Device.held self.now.below))) }
+        ensures { result ≡ levels_standing self.now.table (length (shows (D.Device.held self.now.below))) }
     {
         if self.below.size() == self.table.whole().length {
             Standing::Stands
@@ -48,15 +48,15 @@ impl<D: Device> Levels<D> {
 
     // How many containers are mounted.
     pub fn depth(&self) -> usize
-        ensures { result ≡ self.now.table.depth }
+        ensures { result ≡ length self.now.table.mounted }
     {
         self.table.depth()
     }
 
     // Mounts the level of `length` blocks from block `start` of the deepest.
     pub fn mount(&mut self, start: u32, length: u32) -> Result<(), LevelFault>
-        ensures answer { result ≡ mount_answer (table self.old.table.depth self.old.table.records) start length }
-        ensures table { table self.new.table.depth self.new.table.records ≡ mount_table (table self.old.table.depth self.old.table.records) start length }
+        ensures answer { result ≡ mount_answer self.old.table start length }
+        ensures table { self.new.table ≡ mount_table self.old.table start length }
         ensures below { self.new.below ≡ self.old.below }
     {
         self.table.mount(start, length)
@@ -64,8 +64,8 @@ impl<D: Device> Levels<D> {
 
     // Leaves the deepest level for the one around it.
     pub fn dismount(&mut self) -> Result<(), LevelFault>
-        ensures answer { result ≡ dismount_answer (table self.old.table.depth self.old.table.records) }
-        ensures table { table self.new.table.depth self.new.table.records ≡ dismount_table (table self.old.table.depth self.old.table.records) }
+        ensures answer { result ≡ dismount_answer self.old.table }
+        ensures table { self.new.table ≡ dismount_table self.old.table }
         ensures below { self.new.below ≡ self.old.below }
     {
         self.table.dismount()
@@ -73,9 +73,9 @@ impl<D: Device> Levels<D> {
 }
 
 impl<D: Device> Device for Levels<D> {
-    ghost held = { λ l. held_levels (table l.table.depth l.table.records) (D.Device.held l.below) };
+    ghost held = { λ l. held_levels l.table (D.Device.held l.below) };
 
-    ghost fixed = { λ l. tabled (table l.table.depth l.table.records) (D.Device.fixed l.below) };
+    ghost fixed = { λ l. tabled l.table (D.Device.fixed l.below) };
 
     fn size(&self) -> u32 {
         match self.standing() {
