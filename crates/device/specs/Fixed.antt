@@ -3,10 +3,10 @@ use Rattle.std.specs.Prelude.{ℕ, ◌*◌, List, [], ◌∷◌, drop}
 use Rattle.device.specs.declared.level.Level.{Level}
 use Rattle.device.specs.Images.{image_blocks}
 
--- A level table as a value: how many containers are mounted, and the records, the whole device first.
+-- A level table as a value: the record of the whole device, and those of the mounted containers, each inside the one before.
 pub record Table : Type 0 where
-  pub depth : ℕ
-  pub records : List Level
+  pub whole : Level
+  pub mounted : List Level
 
 -- The references lent to a device, the list of bad blocks that it was given, the bytes behind its last block, and the level tables
 -- of its layers, the outermost first.

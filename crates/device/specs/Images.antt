@@ -1,11 +1,12 @@
 -- Blocks that lie in memory.
-use Rattle.std.specs.Prelude.{◌≡◌, ℕ, ◌+◌, ◌*◌, ◌/◌, ◌<◌, ◌≤◌, min, Bool, false, List, [], length, nat_eq, slice_index}
-use Rattle.device.specs.Blocks.{Block, made, any}
+use Rattle.std.specs.Prelude.{◌≡◌, ℕ, ◌+◌, ◌*◌, ◌/◌, ◌<◌, ◌≤◌, min, Bool, false, List, [], length, take, nat_eq, slice_index}
+use Rattle.std.specs.List.{list_any}
+use Rattle.device.specs.Blocks.{Block, made}
 use Rattle.device.specs.Stacks.{Stack}
 
 -- whether one of the first 32 entries of the list is b
 abbrev pub listed : List ℕ → ℕ → Bool
-listed bads b = any (min (length bads) 32) (λ k. nat_eq (slice_index bads k) b)
+listed bads b = list_any (λ x. nat_eq x b) (take 32 bads)
 
 -- n blocks of the memory, from its start on, of which those by f are bad
 abbrev pub laid : ℕ → (ℕ → Bool) → List ℕ → List Block

@@ -24,8 +24,7 @@ impl DeviceFault {
         ensures { result ≡ fault_block self }
     {
         match self {
-            DeviceFault::PastEnd(b) => b,
-            DeviceFault::BadBlock(b) => b,
+            DeviceFault::PastEnd(b) | DeviceFault::BadBlock(b) => b,
         }
     }
 }

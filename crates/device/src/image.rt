@@ -1,8 +1,10 @@
 // A device over the caller's memory.
-ghost use Rattle.std.specs.Prelude.{◌≡◌, ℕ, ◌+◌, ◌*◌, ◌/◌, ◌<◌, ◌≤◌, min, Bool, [], ◌∷◌, length, replicate, slice_index};
+ghost use Rattle.std.specs.Prelude.{◌≡◌, ℕ, ◌+◌, ◌*◌, ◌/◌, ◌<◌, ◌≤◌, false, length, OnOk, slice_index};
 ghost use Rattle.device.specs.Held.{held_image};
 ghost use Rattle.device.specs.Fixed.{fixed_image};
 ghost use Rattle.device.specs.Images.{image, image_blocks, listed, Stored};
+ghost use Rattle.device.specs.Stacks.{shown};
+ghost use Rattle.device.specs.Answers.{fetch, answered};
 
 use crate::Device;
 use crate::fault::DeviceFault;
@@ -13,9 +15,7 @@ pub(crate) fn load(memory: &[u8], b: u32, into: &mut [u8; 512])
     ensures { (o : ℕ) → o < 512 → slice_index into.new o ≡ slice_index memory.now (512 * b + o) }
 {
     let at = 512 * b as usize;
-    for o in 0..512 {
-        into[o] = memory[at + o];
-    }
+    into.copy_from_slice(&memory[at..at + 512]);
 }
 
 // Writes block b of the memory.
@@ -24,9 +24,7 @@ pub(crate) fn store(memory: &mut [u8], b: u32, from: &[u8; 512])
     ensures { Stored memory.old from.now b memory.new }
 {
     let at = 512 * b as usize;
-    for o in 0..512 {
-        memory[at + o] = from[o];
-    }
+    memory[at..at + 512].copy_from_slice(from);
 }
 
 // The caller's memory as a device: a block for each whole 512 bytes, up to 8,388,608. Of the list of bad blocks the first 32
@@ -41,12 +39,7 @@ pub struct Image<'a, 'b> {
 fn is_listed(bad: &[u32], b: u32) -> bool
     ensures { result ≡ listed bad.now b }
 {
-    for i in 0..bad.len().min(32) {
-        if bad[i] == b {
-            return true;
-        }
-    }
-    false
+    bad[..bad.len().min(32)].contains(&b)
 }
 
 impl<'a, 'b> Image<'a, 'b> {
@@ -64,11 +57,19 @@ impl<'a, 'b> Image<'a, 'b> {
         self.memory
     }
 
-    fn blocks(&self) -> u32
-        ensures { result ≡ image_blocks self.now.memory.now }
+    // Whether block b is there, and good.
+    fn check(&self, b: u32) -> Result<(), DeviceFault>
+        ensures answer { result ≡ answered (fetch (shown (image self.now.memory.now self.now.bad.now)) b) }
+        ensures inside { OnOk result (b < image_blocks self.now.memory.now) }
+        ensures good { OnOk result (listed self.now.bad.now b ≡ false) }
     {
-        let n = self.memory.len() / 512;
-        if n < 8_388_608 { n as u32 } else { 8_388_608 }
+        if b >= self.size() {
+            return Err(DeviceFault::PastEnd(b));
+        }
+        if is_listed(self.bad, b) {
+            return Err(DeviceFault::BadBlock(b));
+        }
+        Ok(())
     }
 }
 
@@ -78,27 +79,17 @@ impl<'a, 'b> Device for Image<'a, 'b> {
     ghost fixed = { λ m. fixed_image m.memory.ghost_name m.memory.now m.bad.now };
 
     fn size(&self) -> u32 {
-        self.blocks()
+        (self.memory.len() / 512).min(8_388_608) as u32
     }
 
     fn read(&self, b: u32, into: &mut [u8; 512]) -> Result<(), DeviceFault> {
-        if b >= self.blocks() {
-            return Err(DeviceFault::PastEnd(b));
-        }
-        if is_listed(self.bad, b) {
-            return Err(DeviceFault::BadBlock(b));
-        }
+        self.check(b)?;
         load(self.memory, b, into);
         Ok(())
     }
 
     fn write(&mut self, b: u32, from: &[u8; 512]) -> Result<(), DeviceFault> {
-        if b >= self.blocks() {
-            return Err(DeviceFault::PastEnd(b));
-        }
-        if is_listed(self.bad, b) {
-            return Err(DeviceFault::BadBlock(b));
-        }
+        self.check(b)?;
         store(self.memory, b, from);
         Ok(())
     }

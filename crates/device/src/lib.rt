@@ -41,8 +41,6 @@ pub trait Device {
 }
 
 // The laws of every pile of layers over every bottom.
-pub fn pile_laws() -> u8
+pub fn pile_laws()
     ensures { PileLaws }
-{
-    0
-}
+{}

@@ -1,7 +1,10 @@
 // A device that keeps its blocks itself.
-ghost use Rattle.std.specs.Prelude.{◌≡◌, replicate};
+ghost use Rattle.std.specs.Prelude.{◌≡◌, ◌<◌, OnOk, replicate};
 ghost use Rattle.device.specs.Held.{held_scratch};
 ghost use Rattle.device.specs.Fixed.{nothing_fixed};
+ghost use Rattle.device.specs.Images.{scratch};
+ghost use Rattle.device.specs.Stacks.{shown};
+ghost use Rattle.device.specs.Answers.{fetch, answered};
 
 use crate::Device;
 use crate::fault::DeviceFault;
@@ -19,6 +22,18 @@ impl Scratch {
     {
         Scratch { bytes: [0; 20480] }
     }
+
+    // Whether block b is there.
+    fn check(&self, b: u32) -> Result<(), DeviceFault>
+        ensures answer { result ≡ answered (fetch (shown (scratch self.now.bytes)) b) }
+        ensures inside { OnOk result (b < 40) }
+    {
+        if b < self.size() {
+            Ok(())
+        } else {
+            Err(DeviceFault::PastEnd(b))
+        }
+    }
 }
 
 impl Device for Scratch {
@@ -31,17 +46,13 @@ impl Device for Scratch {
     }
 
     fn read(&self, b: u32, into: &mut [u8; 512]) -> Result<(), DeviceFault> {
-        if b >= 40 {
-            return Err(DeviceFault::PastEnd(b));
-        }
+        self.check(b)?;
         load(&self.bytes, b, into);
         Ok(())
     }
 
     fn write(&mut self, b: u32, from: &[u8; 512]) -> Result<(), DeviceFault> {
-        if b >= 40 {
-            return Err(DeviceFault::PastEnd(b));
-        }
+        self.check(b)?;
         store(&mut self.bytes, b, from);
         Ok(())
     }

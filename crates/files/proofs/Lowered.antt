@@ -1,24 +1,37 @@
 -- What a call on the deepest level leaves of the pack: its table, and the stack below its levels.
-use Rattle.std.proofs.Common.{◌≡◌, ℕ, zero, suc, List, [], ◌∷◌, drop, sym, refl, ap, ◌∙◌}
+use Rattle.std.proofs.Common.{◌≡◌, ℕ, ◌+◌, List, [], ◌∷◌, length, drop, sym, refl, ap, ◌∙◌, arith}
+use Rattle.std.proofs.lemmas.List.{drop-drop}
 use Rattle.device.specs.declared.level.Level.{Level}
 use Rattle.device.specs.Blocks.{Block}
-use Rattle.device.specs.Stacks.{Stack, put}
+use Rattle.device.specs.Stacks.{Stack, put, over}
 use Rattle.device.specs.Fixed.{Table, Fixed, tabled}
-use Rattle.layers.specs.LevelStacks.{over_depth, over_levels}
+use Rattle.layers.specs.LevelStacks.{exactly, over_mounted, over_levels}
+use Rattle.layers.specs.Windows.{window}
+use Rattle.layers.specs.Mounts.{new_table}
 use Rattle.files.specs.States.{with_level}
 
 -- levels change neither the bottom nor the pile under them
-pub depth_bottom : (rs : List Level) (d : ℕ) (k : Stack) → (over_depth rs d k).bottom ≡ k.bottom
-depth_bottom rs zero k = refl
-depth_bottom rs (suc d) k = depth_bottom rs d k
+pub mounted_bottom : (ls : List Level) (k : Stack) → (over_mounted ls k).bottom ≡ k.bottom
+mounted_bottom [] k = refl
+mounted_bottom (l ∷ ls) k = mounted_bottom ls (over (window l.start l.length) k)
 
-pub depth_pile : (rs : List Level) (d : ℕ) (k : Stack) → drop (suc d) (over_depth rs d k).pile ≡ k.pile
-depth_pile rs zero k = refl
-depth_pile rs (suc d) k = depth_pile rs d k
+pub mounted_pile : (ls : List Level) (k : Stack) → drop (length ls) (over_mounted ls k).pile ≡ k.pile
+mounted_pile [] k = refl
+mounted_pile (l ∷ ls) k =
+    let more : length (l ∷ ls) ≡ length ls + 1 = omega arith in
+    ap (λ (n : ℕ). drop n (over_mounted ls (over (window l.start l.length) k)).pile) more
+    ∙ sym (drop-drop 1 (length ls) (over_mounted ls (over (window l.start l.length) k)).pile)
+    ∙ ap (drop 1) (mounted_pile ls (over (window l.start l.length) k))
+
+pub levels_bottom : (t : Table) (k : Stack) → (over_levels t k).bottom ≡ k.bottom
+levels_bottom t k = mounted_bottom t.mounted (over (exactly t.whole.length) k)
+
+pub levels_pile : (t : Table) (k : Stack) → drop 1 (drop (length t.mounted) (over_levels t k).pile) ≡ k.pile
+levels_pile t k = ap (drop 1) (mounted_pile t.mounted (over (exactly t.whole.length) k))
 
 -- the outermost table and the rest of what is fixed
 first_of : List Table → Table
-first_of [] = record { depth = 0; records = [] }
+first_of [] = new_table 0
 first_of (t ∷ ts) = t
 
 rest_of : List Table → List Table
@@ -39,11 +52,11 @@ pub lowered : (t u : Table) (k j : Stack) (new : List Block) → u ≡ t → ove
 lowered t u k j new p e = λ i. record { table = p i; stack = record { bottom = low i; pile = same i } }
   where
     low : j.bottom ≡ (put (over_levels t k) new).bottom
-    low = sym (depth_bottom u.records u.depth j) ∙ ap (λ (s : Stack). s.bottom) e
+    low = sym (levels_bottom u j) ∙ ap (λ (s : Stack). s.bottom) e
 
     same : j.pile ≡ k.pile
     same =
-        sym (depth_pile u.records u.depth j)
-        ∙ ap (λ (s : Stack). drop (suc u.depth) s.pile) e
-        ∙ ap (λ (v : Table). drop (suc v.depth) (over_levels t k).pile) p
-        ∙ depth_pile t.records t.depth k
+        sym (levels_pile u j)
+        ∙ ap (λ (s : Stack). drop 1 (drop (length u.mounted) s.pile)) e
+        ∙ ap (λ (v : Table). drop 1 (drop (length v.mounted) (over_levels t k).pile)) p
+        ∙ levels_pile t k

@@ -4,7 +4,7 @@ use Rattle.device.specs.Blocks.{Block}
 use Rattle.device.specs.Stacks.{Stack, shown, put}
 use Rattle.device.specs.Held.{Held, shows}
 use Rattle.device.specs.Fixed.{Table}
-use Rattle.layers.specs.Mounts.{table, new_table}
+use Rattle.layers.specs.Mounts.{new_table}
 use Rattle.layers.specs.LevelStacks.{over_levels}
 use Rattle.volume.specs.Initial.{init_blocks}
 use Rattle.files.specs.declared.pack.Pack.{Pack}
@@ -15,7 +15,7 @@ pub record State : Type 0 where
   pub stack : Stack
 
 abbrev pub state_of : {D : Type 0} → (D → Held) → Pack D → State
-state_of held p = record { table = table p.levels.table.depth p.levels.table.records; stack = (held p.levels.below).stack }
+state_of held p = record { table = p.levels.table; stack = (held p.levels.below).stack }
 
 -- no container mounted
 abbrev pub new_state : Held → State

@@ -10,7 +10,7 @@ use Rattle.device.proofs.Fetches.{read_bad, fetch-good, fetch_bad, fetch_past}
 use Rattle.device.proofs.Made.{any_false, any_true, byte_at}
 use Rattle.device.proofs.Lens.{whole_seen, bad_seen, byte-seen}
 use Rattle.floppy.specs.Floppies.{sector, sector_below, floppy, floppy_count, floppy_place}
-use Rattle.floppy.specs.Held.{length-floppy}
+use Rattle.floppy.specs.Held.{length-floppy, floppy_few}
 use Rattle.floppy.specs.declared.buffer.Buffer.{Buffer}
 use Rattle.floppy.specs.Buffers.{Current, loaded, Readable, Copied}
 
@@ -23,6 +23,9 @@ standing n b = go (leb 501 n) refl
     go : (t : Bool) → leb 501 n ≡ t → b < cond t 494 0 → (501 ≤ n) × (b < 494)
     go true e h = (leb-true 501 n e, h)
     go false e h = absurd (omega arith)
+
+pub few_blocks : (bs : List Block) → length (seen floppy bs) ≤ 494
+few_blocks bs = omega (arith, length-floppy bs, floppy_few (length bs))
 
 -- the sector that holds a byte
 pub place_sector : (b i o : ℕ) → o < 128 → floppy_place (512 * b + (128 * i + o)) ≡ 128 * sector (4 * b + i) + o
@@ -89,7 +92,7 @@ sector-readable bs b i x r h e =
 
 -- i sectors of block b gathered in `bytes`, the last block read in the buffer
 pub record Gathered (bs : List Block) (b i : ℕ) (h : Buffer) (bytes : List ℕ) : Type 0 where
-  pub current : Current h.block h.bytes bs
+  pub current : Current h bs
   pub long : length bytes ≡ 512
   pub fine : (k : ℕ) → k < i → is_bad bs (sector (4 * b + k) / 4) ≡ false
   pub there : (o : ℕ) → o < 128 * i → get_or bytes o 0 ≡ byte bs (floppy_place (512 * b + o))
@@ -100,7 +103,7 @@ pub gathered_more : (bs : List Block) (b i x : ℕ) (h k : Buffer) (r : Result (
     → Copied k.bytes (x % 4) bytes i after → Gathered bs b (i + 1) k after
 gathered_more bs b i x h k r bytes after g e low answer buffer ok c =
     record {
-      current = subst (λ (z : Buffer). Current z.block z.bytes bs) (sym is) got;
+      current = subst (λ (z : Buffer). Current z bs) (sym is) got;
       long = c.long ∙ g.long;
       fine = below_more _ _ g.fine (ap (λ (y : ℕ). is_bad bs (y / 4)) (sym e) ∙ good);
       there = λ o p. at o p (cases_lt o (128 * i));

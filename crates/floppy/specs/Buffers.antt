@@ -1,5 +1,5 @@
 -- A block below, held in memory.
-use Rattle.std.specs.Prelude.{◌≡◌, ℕ, ◌+◌, ◌*◌, ◌<◌, ◌≤◌, Bool, false, List, length, Some, None, Ok, Err, Option, Result, ◌==◌, slice_index}
+use Rattle.std.specs.Prelude.{◌≡◌, ℕ, ◌+◌, ◌*◌, ◌<◌, ◌≤◌, Bool, false, List, length, Some, None, Ok, Err, Option, Result, IfSome, ◌==◌, slice_index}
 use Rattle.device.specs.declared.fault.DeviceFault.{DeviceFault}
 use Rattle.device.specs.Blocks.{Block, is_bad}
 use Rattle.device.specs.Stacks.{Stack, shown}
@@ -12,9 +12,8 @@ is_held None b = false
 is_held (Some c) b = c == b
 
 -- what is held is what is below
-abbrev pub Current : Option ℕ → List ℕ → List Block → Type 0
-Current None bytes bs = Unit {0}
-Current (Some b) bytes bs = fetch bs b ≡ Ok bytes
+abbrev pub Current : Buffer → List Block → Type 0
+Current h bs = IfSome h.block (λ b. fetch bs b ≡ Ok h.bytes)
 
 -- the buffer once block b was read
 abbrev pub loaded : Result (List ℕ) DeviceFault → ℕ → Buffer → Buffer
@@ -22,9 +21,12 @@ loaded (Ok bytes) b old = record { block = Some b; bytes = bytes }
 loaded (Err e) b old = old
 
 -- what is below once the block held was written
-abbrev pub saved : Option ℕ → List ℕ → Stack → Stack
-saved None bytes s = s
-saved (Some b) bytes s = stored (fetch (shown s) b) s b bytes
+abbrev pub saved_at : Option ℕ → List ℕ → Stack → Stack
+saved_at None bytes s = s
+saved_at (Some b) bytes s = stored (fetch (shown s) b) s b bytes
+
+abbrev pub saved : Buffer → Stack → Stack
+saved h s = saved_at h.block h.bytes s
 
 -- block b is there, and good
 pub record Readable (bs : List Block) (b : ℕ) : Type 0 where

@@ -28,10 +28,7 @@ impl Buffer {
     fn holds(&self, b: u32) -> bool
         ensures { result ≡ is_held self.now.block b }
     {
-        match self.block {
-            Some(held) => held == b,
-            None => false,
-        }
+        self.block == Some(b)
     }
 
     // Reads block b into the buffer.
@@ -46,7 +43,7 @@ impl Buffer {
 
     // Reads block b, unless it is the one held.
     pub(crate) fn seek<D: Device>(&mut self, below: &D, b: u32) -> Result<(), DeviceFault>
-        requires { Current self.old.block self.old.bytes (shows (D.Device.held below.now)) }
+        requires { Current self.old (shows (D.Device.held below.now)) }
         ensures answer { result ≡ answered (fetch (shows (D.Device.held below.now)) b) }
         ensures buffer { self.new ≡ loaded (fetch (shows (D.Device.held below.now)) b) b self.old }
     {
@@ -58,7 +55,7 @@ impl Buffer {
 
     // Writes the block held.
     pub(crate) fn save<D: Device>(&self, below: &mut D)
-        ensures stack { (D.Device.held below.new).stack ≡ saved self.now.block self.now.bytes (D.Device.held below.old).stack }
+        ensures stack { (D.Device.held below.new).stack ≡ saved self.now (D.Device.held below.old).stack }
         ensures fixed { D.Device.fixed below.new ≡ D.Device.fixed below.old }
     {
         if let Some(b) = self.block {
@@ -72,7 +69,7 @@ impl Buffer {
         requires good { Readable (shows (D.Device.held below.old)) b }
         ensures long { length self.new.bytes ≡ 512 }
         ensures block { self.new.block ≡ Some b }
-        ensures stack { saved self.new.block self.new.bytes (D.Device.held below.new).stack ≡ saved self.old.block self.old.bytes (D.Device.held below.old).stack }
+        ensures stack { saved self.new (D.Device.held below.new).stack ≡ saved self.old (D.Device.held below.old).stack }
         ensures fixed { D.Device.fixed below.new ≡ D.Device.fixed below.old }
     {
         if !self.holds(b) {

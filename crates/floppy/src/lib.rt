@@ -6,7 +6,7 @@ ghost use Rattle.device.specs.Blocks.{good};
 ghost use Rattle.device.specs.Stacks.{put};
 ghost use Rattle.device.specs.Answers.{fetch};
 ghost use Rattle.device.specs.Held.{shows};
-ghost use Rattle.floppy.specs.Floppies.{floppy_standing, floppy_count, FloppyRows};
+ghost use Rattle.floppy.specs.Floppies.{floppy_standing, FloppyRows};
 ghost use Rattle.floppy.specs.Held.{held_floppy};
 ghost use Rattle.floppy.specs.Buffers.{Readable};
 
@@ -49,29 +49,20 @@ impl<D: Device> Floppy<D> {
         }
     }
 
-    fn blocks(&self) -> u32
-        ensures { result ≡ floppy_count (length (shows (D.Device.held self.now.below))) }
-    {
-        match self.standing() {
-            Standing::Stands => 494,
-            Standing::DoesNotFit => 0,
-        }
-    }
-
     // The sectors of block b, put together. Each block below is read at most once.
+    #[tactic(auto, using(crate::proofs::Places::few_blocks))]
     fn gather(&self, b: u32) -> Result<[u8; 512], DeviceFault>
         ensures { result ≡ fetch (shows (held_floppy (D.Device.held self.now.below))) b }
     {
-        if b >= self.blocks() {
+        if b >= self.size() {
             return Err(DeviceFault::PastEnd(b));
         }
         let mut held = Buffer::empty();
         let mut bytes = [0; 512];
         for i in 0..4 {
             let place = sector_at(4 * b + i);
-            if held.seek(&self.below, place / 4).is_err() {
-                return Err(DeviceFault::BadBlock(b));
-            }
+            held.seek(&self.below, place / 4)
+                .map_err(|_| DeviceFault::BadBlock(b))?;
             copy_sector(&held.bytes, place % 4, &mut bytes, i);
         }
         Ok(bytes)
@@ -100,7 +91,10 @@ impl<D: Device> Device for Floppy<D> {
     ghost fixed = { λ f. D.Device.fixed f.below };
 
     fn size(&self) -> u32 {
-        self.blocks()
+        match self.standing() {
+            Standing::Stands => 494,
+            Standing::DoesNotFit => 0,
+        }
     }
 
     fn read(&self, b: u32, into: &mut [u8; 512]) -> Result<(), DeviceFault> {
@@ -117,8 +111,6 @@ impl<D: Device> Device for Floppy<D> {
 }
 
 // Three rows of the sector table.
-pub fn floppy_rows() -> u8
+pub fn floppy_rows()
     ensures { FloppyRows }
-{
-    0
-}
+{}

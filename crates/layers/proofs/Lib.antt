@@ -1,4 +1,4 @@
-pub mod Elsewhere
+pub mod Parts
 pub mod WindowLaws
 pub mod Nests
 pub mod NestedWindows

@@ -1,15 +1,19 @@
 -- A window's blocks are blocks below.
 use Rattle.std.proofs.Common.{◌≡◌, ℕ, ◌+◌, ◌*◌, ◌/◌, ◌%◌, ◌<◌, ◌≤◌, Bool, true, false, cond, leb, ◌⊎◌, List, length, get_or, set, Ok, Err, sym, refl, ap, ◌∙◌, inl, inr, arith, length-set}
-use Rattle.std.proofs.lemmas.Bool.{cases_eq, cond-false, leb-true, le-ltb}
+use Rattle.std.proofs.lemmas.Bool.{cases_eq, cond-false, cond_both, leb-true, le-ltb}
 use Rattle.device.specs.declared.fault.DeviceFault.TheVariants.{PastEnd, BadBlock}
 use Rattle.device.specs.Blocks.{Block, none, good, Whole, is_bad, byte}
 use Rattle.device.specs.Stacks.{seen, kept, Stack, shown, put, over}
 use Rattle.layers.specs.Windows.{window, window_count, length-window}
-use Rattle.layers.proofs.Elsewhere.{elsewhere, at_elsewhere}
+use Rattle.layers.specs.Parts.{PartIsThere, elsewhere, part_fetch, part_stored}
+use Rattle.layers.proofs.Parts.{at_elsewhere, parted, parted_stored}
 use Rattle.device.specs.Answers.{fetch, stored}
 use Rattle.device.proofs.Made.{any_all, same_block, same_blocks, placed, byte-set_same, byte-set_other, bad_set, whole_set}
 use Rattle.device.proofs.Fetches.{at_block, fetch_below}
 use Rattle.device.proofs.Lens.{length_seen, whole_seen, bad_seen, byte-seen, length-kept, whole_kept, bad_kept, byte-kept_at, byte-kept_off}
+
+window_shown : (s n m : ℕ) → window_count s n m ≤ n
+window_shown s n m = cond_both (leb (s + n) m) n 0 (λ x. x ≤ n) (λ e. omega arith) (λ e. omega arith)
 
 pub standing : (s n m b : ℕ) → b < window_count s n m → (s + n ≤ m) × (b < n)
 standing s n m b = go (leb (s + n) m) refl
@@ -94,3 +98,19 @@ window-stored s n k j w b h from l p =
         ≡ stored (elsewhere b (cond t (Err (BadBlock (s + b))) (Ok (get_or (shown k) (s + b) none).bytes))) (over (window s n) k) b from
     go true e = refl
     go false e = ap (λ (m : List Block). over (window s n) (put k m)) (sym (window-kept s n (shown k) w b h (good from) l (sym e)))
+
+-- of a block inside the window and of one past it
+pub window_there : (s n m : ℕ) → PartIsThere s (window_count s n m) m
+window_there s n m h =
+    let i = standing s n m 0 h in
+    omega (arith, i.0, window_shown s n m)
+
+module _ (s n : ℕ) (k : Stack) (w : Whole (shown k)) (b : ℕ) where
+  pub window_parts : fetch (seen (window s n) (shown k)) b ≡ part_fetch s (window_count s n (length (shown k))) (shown k) b
+  window_parts = parted b _ _ (window_past s n (shown k) b) (fetch (shown k) (s + b)) (window-fetch s n (shown k) w b)
+
+  pub window_parts_stored : (j : Stack) (from : List ℕ) → length from ≡ 512 → j ≡ part_stored s (window_count s n (length (shown k))) k b from
+      → over (window s n) j ≡ stored (fetch (shown (over (window s n) k)) b) (over (window s n) k) b from
+  window_parts_stored j from l =
+      parted_stored b _ _ (window_past s n (shown k) b) (over (window s n)) k j (stored (fetch (shown k) (s + b)) k (s + b) from) from
+      (λ h p. window-stored s n k j w b h from l p)

@@ -1,5 +1,5 @@
 -- What a level table stands for: the whole device, and a window for each mounted level.
-use Rattle.std.specs.Prelude.{◌≡◌, ℕ, zero, suc, ◌*◌, ◌<◌, ◌≤◌, Bool, true, false, cond, List, length, ◌==◌, refl}
+use Rattle.std.specs.Prelude.{◌≡◌, ℕ, ◌*◌, ◌<◌, ◌≤◌, Bool, true, false, cond, List, [], ◌∷◌, length, ◌==◌, refl}
 use Rattle.std.proofs.Common.{arith}
 use Rattle.std.proofs.lemmas.Bool.{eqb-true}
 use Rattle.device.specs.declared.level.Level.{Level}
@@ -10,7 +10,7 @@ use Rattle.device.specs.Tables.{length-made}
 use Rattle.device.specs.Stacks.{Layer, Stack, seen, shown, over}
 use Rattle.device.specs.Held.{Held}
 use Rattle.device.specs.Fixed.{Table}
-use Rattle.layers.specs.Nested.{at}
+use Rattle.layers.specs.Mounts.{deepest_level}
 use Rattle.layers.specs.Windows.{window, length-window, window_fewer}
 
 -- n blocks, over exactly n: over another number none
@@ -25,21 +25,21 @@ unfoldable pub exactly : ℕ → Layer
 exactly n =
     record { count = exact_count n; place = λ m a. a; inside = λ m a h. exact_inside n m a (m == n) refl h; apart = λ m a b ha hb e. e }
 
--- the layers of the levels down to a depth
-abbrev pub over_depth : List Level → ℕ → Stack → Stack
-over_depth rs zero k = over (exactly (at rs 0).length) k
-over_depth rs (suc d) k = over (window (at rs (suc d)).start (at rs (suc d)).length) (over_depth rs d k)
+-- a window for each mounted level, the deepest on top
+abbrev pub over_mounted : List Level → Stack → Stack
+over_mounted [] k = k
+over_mounted (l ∷ ls) k = over_mounted ls (over (window l.start l.length) k)
 
 -- the stack of the deepest level
 abbrev pub over_levels : Table → Stack → Stack
-over_levels t k = over_depth t.records t.depth k
+over_levels t k = over_mounted t.mounted (over (exactly t.whole.length) k)
 
 -- A table stands over the number of blocks that it was made for, and shows the deepest level then, else none.
 abbrev pub levels_standing : Table → ℕ → Standing
-levels_standing t m = cond (m == (at t.records 0).length) Stands DoesNotFit
+levels_standing t m = cond (m == t.whole.length) Stands DoesNotFit
 
 abbrev pub levels_count : Table → ℕ → ℕ
-levels_count t m = cond (m == (at t.records 0).length) (at t.records t.depth).length 0
+levels_count t m = cond (m == t.whole.length) (deepest_level t).length 0
 
 -- levels over what is held
 pub length-exactly : (n : ℕ) (bs : List Block) → length (seen (exactly n) bs) ≡ exact_count n (length bs)
@@ -53,22 +53,20 @@ exact_fewer n m = go (m == n) refl
     go true e = omega (arith, eqb-true m n e)
     go false e = omega arith
 
-pub depth_fewer : (rs : List Level) (d : ℕ) (k : Stack) → length (shown (over_depth rs d k)) ≤ length (shown k)
-depth_fewer rs zero k = omega (arith, length-exactly (at rs 0).length (shown k), exact_fewer (at rs 0).length (length (shown k)))
-depth_fewer rs (suc d) k =
-    let s : ℕ = (at rs (suc d)).start in
-    let n : ℕ = (at rs (suc d)).length in
+pub mounted_fewer : (ls : List Level) (k : Stack) → length (shown (over_mounted ls k)) ≤ length (shown k)
+mounted_fewer [] k = omega arith
+mounted_fewer (l ∷ ls) k =
     omega
-    (arith, length-window s n (shown (over_depth rs d k)), window_fewer s n (length (shown (over_depth rs d k))), depth_fewer rs d k)
+    (arith, mounted_fewer ls (over (window l.start l.length) k), length-window l.start l.length (shown k), window_fewer l.start l.length (length (shown k)))
 
-pub depth_whole : (rs : List Level) (d : ℕ) (k : Stack) → Whole k.bottom → Whole (over_depth rs d k).bottom
-depth_whole rs zero k w = w
-depth_whole rs (suc d) k w = depth_whole rs d k w
+pub mounted_whole : (ls : List Level) (k : Stack) → Whole k.bottom → Whole (over_mounted ls k).bottom
+mounted_whole [] k w = w
+mounted_whole (l ∷ ls) k w = mounted_whole ls (over (window l.start l.length) k) w
+
+pub levels_limit : (t : Table) (h : Held) → length (shown (over_levels t h.stack)) ≤ 8388608
+levels_limit t h =
+    omega
+    (arith, mounted_fewer t.mounted (over (exactly t.whole.length) h.stack), length-exactly t.whole.length (shown h.stack), exact_fewer t.whole.length (length (shown h.stack)), h.limit)
 
 abbrev pub held_levels : Table → Held → Held
-held_levels t h =
-    record {
-      stack = over_levels t h.stack;
-      whole = depth_whole t.records t.depth h.stack h.whole;
-      limit = omega (arith, depth_fewer t.records t.depth h.stack, h.limit);
-    }
+held_levels t h = record { stack = over_levels t h.stack; whole = mounted_whole t.mounted (over (exactly t.whole.length) h.stack) h.whole; limit = levels_limit t h }

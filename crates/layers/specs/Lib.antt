@@ -1,3 +1,4 @@
+pub mod Parts
 pub mod Windows
 pub mod Nested
 pub mod Mounts

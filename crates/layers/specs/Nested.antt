@@ -1,21 +1,25 @@
 -- Levels one inside the other.
-use Rattle.std.specs.Prelude.{◌≡◌, ℕ, zero, suc, ◌+◌, ◌^◌, ◌<◌, ◌≤◌, List, length, slice_index_or}
+use Rattle.std.specs.Prelude.{ℕ, ◌+◌, ◌^◌, ◌<◌, ◌≤◌, List, [], ◌∷◌, length}
+use Rattle.std.specs.List.{sum_by}
 use Rattle.device.specs.declared.level.Level.{Level}
 
--- the record of the level at a depth; depth 0 is the whole device
-abbrev pub at : List Level → ℕ → Level
-at rs k = slice_index_or rs k (record { start = 0; length = 0 })
+-- the deepest of the levels mounted in the level `around`: that level itself where none is
+abbrev pub innermost : Level → List Level → Level
+innermost around [] = around
+innermost around (l ∷ ls) = innermost l ls
 
--- the block of the device that is the first of the level at a depth: starts are counted from the level around
-unfoldable pub origin : List Level → ℕ → ℕ
-origin rs zero = 0
-origin rs (suc k) = origin rs k + (at rs (suc k)).start
+-- the block of the device that is the first of the deepest level: starts are counted from the level around
+abbrev pub origin : List Level → ℕ
+origin ls = sum_by (λ l. l.start) ls
 
--- each level down to a depth lies inside the one around it
-abbrev pub Nested : List Level → ℕ → Type 0
-Nested rs depth = (k : ℕ) → k < depth → (at rs (suc k)).start + (at rs (suc k)).length ≤ (at rs k).length
+-- each level lies inside the one around it
+abbrev pub Nested : Level → List Level → Type 0
+Nested around [] = Unit {0}
+Nested around (l ∷ ls) = (l.start + l.length ≤ around.length) × Nested l ls
 
--- what every level table keeps: eight records, at most seven containers mounted, each level inside the one around it; the blocks of
--- the whole device are a number of 32 bits
-abbrev pub LevelsInside : List Level → ℕ → Type 0
-LevelsInside rs depth = (length rs ≡ 8) × (depth ≤ 7) × Nested rs depth × ((at rs 0).length < 2 ^ 32)
+-- what every level table keeps: at most seven containers mounted, each level inside the one around it; the blocks of the whole device
+-- are a number of 32 bits
+pub record LevelsInside (whole : Level) (mounted : List Level) : Type 0 where
+  pub few : length mounted ≤ 7
+  pub nested : Nested whole mounted
+  pub small : whole.length < 2 ^ 32

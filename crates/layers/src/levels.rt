@@ -2,9 +2,10 @@
 ghost use Rattle.std.specs.Prelude.{◌≡◌, ℕ, ◌+◌, length};
 ghost use Rattle.device.specs.Held.{shows};
 ghost use Rattle.device.specs.Fixed.{tabled};
-ghost use Rattle.layers.specs.Mounts.{table, new_table, mount_answer, mount_table, dismount_answer, dismount_table};
-ghost use Rattle.layers.specs.LevelStacks.{levels_standing, levels_count, held_levels};
+ghost use Rattle.layers.specs.Mounts.{new_table, mount_answer, mount_table, dismount_answer, dismount_table};
+ghost use Rattle.layers.specs.LevelStacks.{levels_standing, held_levels};
 
+use crate::part::{read_part, write_part};
 use crate::table::{LevelFault, LevelTable};
 use device::Device;
 use device::fault::DeviceFault;
@@ -21,7 +22,7 @@ impl<D: Device> Levels<D> {
     // With no container mounted.
     pub fn over(below: D) -> Levels<D>
         ensures below { result.below ≡ below }
-        ensures table { table result.table.depth result.table.records ≡ new_table (length (shows (D.Device.held below))) }
+        ensures table { result.table ≡ new_table (length (shows (D.Device.held below))) }
     {
         let table = LevelTable::new(below.size());
         Levels { below, table }
@@ -29,7 +30,7 @@ impl<D: Device> Levels<D> {
 
     // Whether what is below has as many blocks as when the table was made.
     pub fn standing(&self) -> Standing
-        ensures { result ≡ levels_standing (table self.now.table.depth self.now.table.records) (length (shows (D.Device.held self.now.below))) }
+        ensures { result ≡ levels_standing self.now.table (length (shows (D.Device.held self.now.below))) }
     {
         if self.below.size() == self.table.whole().length {
             Standing::Stands
@@ -47,15 +48,15 @@ impl<D: Device> Levels<D> {
 
     // How many containers are mounted.
     pub fn depth(&self) -> usize
-        ensures { result ≡ self.now.table.depth }
+        ensures { result ≡ length self.now.table.mounted }
     {
         self.table.depth()
     }
 
     // Mounts the level of `length` blocks from block `start` of the deepest.
     pub fn mount(&mut self, start: u32, length: u32) -> Result<(), LevelFault>
-        ensures answer { result ≡ mount_answer (table self.old.table.depth self.old.table.records) start length }
-        ensures table { table self.new.table.depth self.new.table.records ≡ mount_table (table self.old.table.depth self.old.table.records) start length }
+        ensures answer { result ≡ mount_answer self.old.table start length }
+        ensures table { self.new.table ≡ mount_table self.old.table start length }
         ensures below { self.new.below ≡ self.old.below }
     {
         self.table.mount(start, length)
@@ -63,52 +64,32 @@ impl<D: Device> Levels<D> {
 
     // Leaves the deepest level for the one around it.
     pub fn dismount(&mut self) -> Result<(), LevelFault>
-        ensures answer { result ≡ dismount_answer (table self.old.table.depth self.old.table.records) }
-        ensures table { table self.new.table.depth self.new.table.records ≡ dismount_table (table self.old.table.depth self.old.table.records) }
+        ensures answer { result ≡ dismount_answer self.old.table }
+        ensures table { self.new.table ≡ dismount_table self.old.table }
         ensures below { self.new.below ≡ self.old.below }
     {
         self.table.dismount()
     }
+}
 
-    // How many blocks it shows.
-    fn blocks(&self) -> u32
-        ensures { result ≡ levels_count (table self.now.table.depth self.now.table.records) (length (shows (D.Device.held self.now.below))) }
-    {
+impl<D: Device> Device for Levels<D> {
+    ghost held = { λ l. held_levels l.table (D.Device.held l.below) };
+
+    ghost fixed = { λ l. tabled l.table (D.Device.fixed l.below) };
+
+    fn size(&self) -> u32 {
         match self.standing() {
             Standing::Stands => self.table.deepest().length,
             Standing::DoesNotFit => 0,
         }
     }
-}
-
-impl<D: Device> Device for Levels<D> {
-    ghost held = { λ l. held_levels (table l.table.depth l.table.records) (D.Device.held l.below) };
-
-    ghost fixed = { λ l. tabled (table l.table.depth l.table.records) (D.Device.fixed l.below) };
-
-    fn size(&self) -> u32 {
-        self.blocks()
-    }
 
     fn read(&self, b: u32, into: &mut [u8; 512]) -> Result<(), DeviceFault> {
-        if b >= self.blocks() {
-            return Err(DeviceFault::PastEnd(b));
-        }
-        let at = self.table.origin() + b;
-        match self.below.read(at, into) {
-            Ok(()) => Ok(()),
-            Err(_) => Err(DeviceFault::BadBlock(b)),
-        }
+        read_part(&self.below, self.table.origin(), self.size(), b, into)
     }
 
     fn write(&mut self, b: u32, from: &[u8; 512]) -> Result<(), DeviceFault> {
-        if b >= self.blocks() {
-            return Err(DeviceFault::PastEnd(b));
-        }
-        let at = self.table.origin() + b;
-        match self.below.write(at, from) {
-            Ok(()) => Ok(()),
-            Err(_) => Err(DeviceFault::BadBlock(b)),
-        }
+        let count = (*self).size();
+        write_part(&mut self.below, self.table.origin(), count, b, from)
     }
 }

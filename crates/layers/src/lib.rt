@@ -2,5 +2,6 @@
 #![tactic(auto)]
 
 pub mod levels;
+mod part;
 pub mod table;
 pub mod window;

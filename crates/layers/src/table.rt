@@ -1,9 +1,11 @@
 // The table of levels: the whole device, and the containers mounted one inside the other.
-ghost use Rattle.std.specs.Prelude.{◌≡◌, ℕ, ◌+◌, ◌≤◌, replicate};
-ghost use Rattle.layers.specs.Nested.{LevelsInside, at, origin};
-ghost use Rattle.layers.specs.Mounts.{table, new_table, mount_answer, mount_table, dismount_answer, dismount_table, fault_number};
+ghost use Rattle.std.specs.Prelude.{◌≡◌, length};
+ghost use Rattle.layers.specs.Nested.{origin, Nested};
+ghost use Rattle.layers.specs.Mounts.{new_table, deepest_level, mount_answer, mount_table, dismount_answer, dismount_table, fault_number};
 
+use arrayvec::ArrayVec;
 use device::level::Level;
+use std::marker::Model;
 
 // Why a table refuses a level.
 #[derive(Clone, Copy, Debug, PartialEq, Eq)]
@@ -26,96 +28,99 @@ impl LevelFault {
     }
 }
 
-// Record 0 is the whole device, and each mounted level is a start and a length inside the level around it.
-#[derive(Clone, Copy)]
+// The whole device, and the mounted levels, each inside the level around it, the deepest last.
+#[derive(Drop)]
 pub struct LevelTable {
-    records: [Level; 8],
-    depth: usize,
-    ghost inside: { LevelsInside records depth },
+    whole: Level,
+    mounted: ArrayVec<Level, 7>,
 }
 
-// Sets a record that is lent.
-fn set_level(level: &mut Level, start: u32, length: u32)
-    ensures { level.new ≡ record { start = start; length = length } }
-{
-    level.start = start;
-    level.length = length;
+impl Model for LevelTable {
+    ghost use Rattle.device.specs.Fixed.{Table};
+    ghost use Rattle.layers.specs.Nested.{LevelsInside};
+
+    ghost Value = { Table };
+
+    ghost view = { λ t. record { whole = t.whole; mounted = t.mounted.items } };
+
+    ghost invariant = { λ t. LevelsInside t.whole t.mounted.items };
 }
 
 impl LevelTable {
     // The table of a device of so many blocks, with no container mounted.
     pub(crate) fn new(blocks: u32) -> LevelTable
-        ensures { table result.depth result.records ≡ new_table blocks }
+        ensures { result ≡ new_table blocks }
     {
         LevelTable {
-            records: [Level {
+            whole: Level {
                 start: 0,
                 length: blocks,
-            }; 8],
-            depth: 0,
+            },
+            mounted: ArrayVec::new(),
         }
     }
 
     // How many containers are mounted.
     pub(crate) fn depth(&self) -> usize
-        ensures { result ≡ self.now.depth }
+        ensures { result ≡ length self.now.mounted }
     {
-        self.depth
+        self.mounted.len()
     }
 
     // The record of the whole device.
     pub(crate) fn whole(&self) -> Level
-        ensures { result ≡ at self.now.records 0 }
+        ensures { result ≡ self.now.whole }
     {
-        self.records[0]
+        self.whole
     }
 
     // The record of the deepest level.
     pub(crate) fn deepest(&self) -> Level
-        ensures { result ≡ at self.now.records self.now.depth }
+        ensures level { result ≡ deepest_level self.now }
+        ensures nested { Nested self.now.whole self.now.mounted }
     {
-        self.records[self.depth]
+        self.mounted
+            .as_slice()
+            .last()
+            .copied()
+            .unwrap_or(self.whole)
     }
 
     // The block of the device that is the first of the deepest level.
     pub(crate) fn origin(&self) -> u32
-        ensures first { result ≡ origin self.now.records self.now.depth }
-        ensures inside { result + (at self.now.records self.now.depth).length ≤ (at self.now.records 0).length }
+        ensures first { result ≡ origin self.now.mounted }
+        ensures nested { Nested self.now.whole self.now.mounted }
     {
-        let mut first = 0;
-        for k in 0..self.depth {
-            first += self.records[k + 1].start;
-        }
-        first
+        self.mounted
+            .as_slice()
+            .iter()
+            .map(|level| level.start)
+            .sum()
     }
 
     // Mounts the level of `length` blocks from block `start` of the deepest.
     pub(crate) fn mount(&mut self, start: u32, length: u32) -> Result<(), LevelFault>
-        ensures answer { result ≡ mount_answer (table self.old.depth self.old.records) start length }
-        ensures after { table self.new.depth self.new.records ≡ mount_table (table self.old.depth self.old.records) start length }
+        ensures answer { result ≡ mount_answer self.old start length }
+        ensures after { self.new ≡ mount_table self.old start length }
     {
-        if self.depth >= 7 {
+        if self.mounted.is_full() {
             return Err(LevelFault::TooDeep);
         }
         let around = self.deepest();
         if length > around.length || start > around.length - length {
             return Err(LevelFault::Outside);
         }
-        let depth = self.depth + 1;
-        set_level(&mut self.records[depth], start, length);
-        self.depth = depth;
+        self.mounted.push(Level { start, length });
         Ok(())
     }
 
     // Leaves the deepest level for the one around it.
+    #[tactic(auto, using(crate::proofs::Nests::inside_fewer))]
     pub(crate) fn dismount(&mut self) -> Result<(), LevelFault>
-        ensures answer { result ≡ dismount_answer (table self.old.depth self.old.records) }
-        ensures after { table self.new.depth self.new.records ≡ dismount_table (table self.old.depth self.old.records) }
+        ensures answer { result ≡ dismount_answer self.old }
+        ensures after { self.new ≡ dismount_table self.old }
     {
-        if self.depth == 0 {
-            return Err(LevelFault::NotMounted);
-        }
-        self.depth -= 1;
+        self.mounted.pop().ok_or(LevelFault::NotMounted)?;
         Ok(())
     }
 }

@@ -1,8 +1,9 @@
 // A partition of a device.
 ghost use Rattle.std.specs.Prelude.{◌≡◌, ℕ, ◌+◌, length};
 ghost use Rattle.device.specs.Held.{shows};
-ghost use Rattle.layers.specs.Windows.{window_count, window_standing, held_window};
+ghost use Rattle.layers.specs.Windows.{window_standing, held_window};
 
+use crate::part::{read_part, write_part};
 use device::Device;
 use device::fault::DeviceFault;
 use device::standing::Standing;
@@ -46,16 +47,6 @@ impl<D: Device> Window<D> {
     {
         &self.below
     }
-
-    // How many blocks it shows.
-    fn blocks(&self) -> u32
-        ensures { result ≡ window_count self.now.start self.now.length (length (shows (D.Device.held self.now.below))) }
-    {
-        match self.standing() {
-            Standing::Stands => self.length,
-            Standing::DoesNotFit => 0,
-        }
-    }
 }
 
 impl<D: Device> Device for Window<D> {
@@ -64,26 +55,18 @@ impl<D: Device> Device for Window<D> {
     ghost fixed = { λ w. D.Device.fixed w.below };
 
     fn size(&self) -> u32 {
-        self.blocks()
+        match self.standing() {
+            Standing::Stands => self.length,
+            Standing::DoesNotFit => 0,
+        }
     }
 
     fn read(&self, b: u32, into: &mut [u8; 512]) -> Result<(), DeviceFault> {
-        if b >= self.blocks() {
-            return Err(DeviceFault::PastEnd(b));
-        }
-        match self.below.read(self.start + b, into) {
-            Ok(()) => Ok(()),
-            Err(_) => Err(DeviceFault::BadBlock(b)),
-        }
+        read_part(&self.below, self.start, self.size(), b, into)
     }
 
     fn write(&mut self, b: u32, from: &[u8; 512]) -> Result<(), DeviceFault> {
-        if b >= self.blocks() {
-            return Err(DeviceFault::PastEnd(b));
-        }
-        match self.below.write(self.start + b, from) {
-            Ok(()) => Ok(()),
-            Err(_) => Err(DeviceFault::BadBlock(b)),
-        }
+        let count = (*self).size();
+        write_part(&mut self.below, self.start, count, b, from)
     }
 }

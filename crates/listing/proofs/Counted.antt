@@ -20,15 +20,15 @@ pub record Adds (t : Totals) (rest all : List Placed) : Type 0 where
   pub few : t.files + length rest ≤ length all
   pub small : t.used + t.free + 65535 * length rest ≤ 65535 * length all
 
-pub adds_none : (ps : List Placed) → Adds (record { files = 0; used = 0; free = 0 }) ps ps
-adds_none ps =
+pub adds_none : (t : Totals) (ps : List Placed) → (t.files ≡ 0) × ((t.used ≡ 0) × (t.free ≡ 0)) → Adds t ps ps
+adds_none t ps h =
     record {
-      files = omega arith;
-      used = omega arith;
-      free = omega arith;
-      lines = omega arith;
-      few = omega arith;
-      small = omega arith;
+      files = omega (arith, h);
+      used = omega (arith, h);
+      free = omega (arith, h);
+      lines = omega (arith, h);
+      few = omega (arith, h);
+      small = omega (arith, h);
     }
 
 -- one entry more, by its status

@@ -40,10 +40,10 @@ fn with_entry(totals: Totals, entry: Placed) -> Totals
 
 // The totals of some entries.
 pub(crate) fn totals_of(entries: Entries) -> Totals
-    ensures files { result.files ≡ length (files_in (entries_left entries)) }
-    ensures used { result.used ≡ blocks_in (files_in (entries_left entries)) }
-    ensures free { result.free ≡ blocks_in (empties_in (entries_left entries)) }
-    ensures lines { 30 * result.files ≡ length (file_lines (entries_left entries)) }
+    ensures files { result.files ≡ length (files_in (entries_left entries.entry)) }
+    ensures used { result.used ≡ blocks_in (files_in (entries_left entries.entry)) }
+    ensures free { result.free ≡ blocks_in (empties_in (entries_left entries.entry)) }
+    ensures lines { 30 * result.files ≡ length (file_lines (entries_left entries.entry)) }
 {
     let mut totals = Totals::default();
     for entry in entries {

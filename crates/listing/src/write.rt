@@ -42,16 +42,21 @@ fn put_lines(entries: Entries, out: &mut [u8])
     requires { length (file_lines (entries_left entries)) ≤ length out.old }
     ensures { out.new ≡ written out.old 0 (file_lines (entries_left entries.entry)) }
 {
-    for (i, entry) in entries.filter(|e| is_file(*e)).enumerate() {
-        put(out, 30 * i, &file_line(entry));
+    // By `filter` and `enumerate` this did not prove.
+    let mut at = 0;
+    for entry in entries {
+        if is_file(entry) {
+            put(out, at, &file_line(entry));
+            at += 30;
+        }
     }
 }
 
 // Writes the listing of a directory: a line for each file in chain order, and a last line of the number of files, their blocks and
 // the free blocks. Tells its length, or leaves the buffer as it is where that is too short.
 pub fn write_listing(entries: Entries, out: &mut [u8]) -> Option<usize>
-    ensures answer { result ≡ listing_answer (listing (entries_left entries)) (length out.old) }
-    ensures after { out.new ≡ listing_after (listing (entries_left entries)) out.old }
+    ensures answer { result ≡ listing_answer (listing (entries_left entries.entry)) (length out.old) }
+    ensures after { out.new ≡ listing_after (listing (entries_left entries.entry)) out.old }
 {
     let totals = totals_of(entries);
     let lines = 30 * totals.files as usize;

@@ -1,21 +1,10 @@
-use Rattle.std.proofs.Common.{ℕ, List, sym, refl, arith}
+use Rattle.std.proofs.Common.{ℕ, List}
 use Rattle.device.specs.Images.{image_blocks, listed}
-use Rattle.device.proofs.Fetches.{laid_past, laid_bad, laid-good, laid_read}
+use Rattle.device.proofs.Fetches.{laid-good, laid_read}
 use Rattle.device.proofs.image.ImageDevice.read.Goals as goal
 
-pub returns-then-b-blocks : goal.returns-then-b-blocks
-returns-then-b-blocks c =
+pub returns-clause-buffer : goal.returns-clause-buffer
+returns-clause-buffer c =
     let m : List ℕ = c.args.self.now.memory.now in
-    rw (laid_past (image_blocks m) (listed c.args.self.now.bad.now) m c.args.b (omega arith)) record { answer = refl; buffer = refl }
-
-pub returns-then-is_listed : goal.returns-then-is_listed
-returns-then-is_listed c =
-    let m : List ℕ = c.args.self.now.memory.now in
-    rw (laid_bad (image_blocks m) (listed c.args.self.now.bad.now) m c.args.b (omega arith) (sym c.if-is_listed.ensures))
-    record { answer = refl; buffer = refl }
-
-pub returns : goal.returns
-returns c =
-    let m : List ℕ = c.args.self.now.memory.now in
-    rw (laid-good (image_blocks m) (listed c.args.self.now.bad.now) m c.args.b (omega arith) (sym c.if-is_listed.ensures))
-    record { answer = refl; buffer = laid_read 0 (listed c.args.self.now.bad.now) m c.args.b c.load.new.into c.load.array_long c.load.ensures }
+    rw (laid-good (image_blocks m) (listed c.args.self.now.bad.now) m c.args.b c.in_ok-check.ensures.inside c.in_ok-check.ensures.good)
+    (laid_read 0 (listed c.args.self.now.bad.now) m c.args.b c.load.new.into c.load.array_long c.load.ensures)

@@ -1,11 +1,14 @@
-use Rattle.std.proofs.Common.{ap, arith}
-use Rattle.layers.proofs.Nests.{mounted}
+use Rattle.std.proofs.Common.{ap, arith, false-eqb}
+use Rattle.layers.specs.Mounts.{deepest_level}
+use Rattle.layers.proofs.Nests.{nested_more}
 use Rattle.layers.proofs.table.LevelTable.mount.Goals as goal
 
 pub invariant_of-self : goal.invariant_of-self
 invariant_of-self c =
-    let t = c.args.self.now in
-    let first = ap (λ x. x.start) c.set_level.ensures in
-    let long = ap (λ x. x.length) c.set_level.ensures in
-    let size = ap (λ x. x.length) c.deepest-around.ensures in
-    record { inside = mounted t.records t.depth _ t.inside (omega arith) (omega arith) }
+    let size = ap (λ l. l.length) c.deepest-around.ensures.level in
+    let same = ap (λ t. (deepest_level t).length) c.self.view_is in
+    record {
+      few = omega (arith, c.push.ensures.len, c.self.invariant.few, false-eqb _ 7 c.if-is_full.ensures.value);
+      nested = rw c.push.ensures.items (nested_more _ _ _ c.self.invariant.nested (omega arith));
+      small = c.self.invariant.small;
+    }

@@ -1,32 +1,22 @@
-use Rattle.std.proofs.Common.{refl, arith}
-use Rattle.device.specs.Held.{Held, shows}
+use Rattle.std.proofs.Common.{ℕ}
+use Rattle.device.specs.Held.{Held}
 use Rattle.device.proofs.Lens.{whole_seen_all}
-use Rattle.layers.proofs.Elsewhere.{through_ok, through_err}
-use Rattle.layers.proofs.WindowLaws.{window_past, window-fetch, window-stored}
+use Rattle.layers.specs.Windows.{length-window}
+use Rattle.layers.proofs.WindowLaws.{window_there, window_parts, window_parts_stored}
 use Rattle.layers.proofs.window.WindowDevice.write.Goals as goal
 
-pub returns-then-b-blocks : goal.returns-then-b-blocks
-returns-then-b-blocks g c =
-    rw
-    (window_past c.args.self.now.start c.args.self.now.length (shows (g.D.Device.held c.args.self.now.below)) c.args.b
-    (omega arith)) record { answer = refl; stack = refl; fixed = refl }
+pub write_part-requires : goal.write_part-requires
+write_part-requires g c = rw (c.size-count.ensures, length-window) (window_there _ _ _)
 
-pub returns-in-Ok : goal.returns-in-Ok
-returns-in-Ok g c =
+pub returns : goal.returns
+returns g c =
+    let s : ℕ = c.args.self.now.start in
+    let n : ℕ = c.args.self.now.length in
     let h : Held = g.D.Device.held c.args.self.now.below in
-    let e = window-fetch c.args.self.now.start c.args.self.now.length (shows h) (whole_seen_all _ _ h.whole) c.args.b (omega arith) in
+    let w = whole_seen_all h.stack.pile h.stack.bottom h.whole in
+    let e = rw (c.size-count.ensures, length-window) at c.write_part.ensures in
     record {
-      answer = through_ok c.args.b _ _ e c.in-Ok.ensures.answer;
-      stack = window-stored c.args.self.now.start c.args.self.now.length h.stack (g.D.Device.held c.write.new.self).stack (whole_seen_all _ _ h.whole) c.args.b (omega arith) c.args.from.now c.told-from c.in-Ok.ensures.stack;
-      fixed = c.in-Ok.ensures.fixed;
-    }
-
-pub returns-in-Err : goal.returns-in-Err
-returns-in-Err g c =
-    let h : Held = g.D.Device.held c.args.self.now.below in
-    let e = window-fetch c.args.self.now.start c.args.self.now.length (shows h) (whole_seen_all _ _ h.whole) c.args.b (omega arith) in
-    record {
-      answer = through_err c.args.b _ _ e _ c.in-Err.ensures.answer;
-      stack = window-stored c.args.self.now.start c.args.self.now.length h.stack (g.D.Device.held c.write.new.self).stack (whole_seen_all _ _ h.whole) c.args.b (omega arith) c.args.from.now c.told-from c.in-Err.ensures.stack;
-      fixed = c.in-Err.ensures.fixed;
+      answer = rw (window_parts s n h.stack w c.args.b) e.answer;
+      stack = window_parts_stored s n h.stack w c.args.b _ _ c.told-from e.stack;
+      fixed = e.fixed;
     }
