@@ -1,6 +1,7 @@
 -- A test of each element, element by element.
 use Rattle.std.proofs.Common.{◌≡◌, ℕ, ◌+◌, ◌<◌, ◌≤◌, Bool, true, false, not, ◌&&◌, ◌||◌, eqb, List, [], ◌∷◌, length, get_or, take, drop, is_some, Some, None, Option, Decides, sym, refl, ap, ◌∙◌, subst, arith}
 use Rattle.std.specs.List.{AllByRecursion}
+use Rattle.std.proofs.ByRecursion.{All-get_or}
 use Rattle.std.proofs.lemmas.List.{length-take, length-drop, get_or-take, get_or-drop, ext_get_or}
 use Rattle.std.specs.Option.{option_map}
 use Rattle.std.proofs.lemmas.Bool.{eqb-true, false≢true}
@@ -22,6 +23,10 @@ meets_all P k (j ∷ js) h a = go (eqb j k) refl h (λ q. meets_all P k js q a.1
     go : (t : Bool) → eqb j k ≡ t → (t || meets k js) ≡ true → (meets k js ≡ true → P k) → P k
     go true e q r = subst P (eqb-true j k e) a.0
     go false e q r = r q
+
+-- what holds of each segment of a chain holds of the one at a place
+pub all_there : (P : ℕ → Type 0) (ks : List ℕ) (i k : ℕ) → i < length ks → k ≡ get_or ks i k → AllByRecursion P ks → P k
+all_there P ks i k l e a = subst P (sym e) (All-get_or P ks i k l a)
 
 -- two facts of each are one
 pub all_both : (P : ℕ → Type 0) (p : ℕ → Bool) (Q : ℕ → Type 0) → ((k : ℕ) → P k → p k ≡ true → Q k) → (ks : List ℕ) → AllByRecursion P ks → every p ks ≡ true → AllByRecursion Q ks

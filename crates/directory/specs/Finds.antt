@@ -2,22 +2,8 @@
 use Rattle.std.specs.Prelude.{ℕ, ◌+◌, Bool, true, false, cond, not, ◌&&◌, ◌||◌, List, [], ◌∷◌, Some, None, Option, ◌==◌, nat_lt}
 use Rattle.std.specs.List.{list_all, find}
 use Rattle.codec.specs.declared.name.Name.{Name}
-use Rattle.volume.specs.declared.entry.Status.{Status}
-use Rattle.volume.specs.declared.entry.Status.TheVariants.{Tentative, Empty, Permanent, Protected}
+pub use Rattle.volume.specs.Entries.{file_status, tentative_status}
 use Rattle.directory.specs.declared.placed.Placed.{Placed}
-
--- a file's entry is permanent, protected or not
-abbrev pub file_status : Status → Bool
-file_status Tentative = false
-file_status Empty = false
-file_status Permanent = true
-file_status Protected = true
-
-abbrev pub tentative_status : Status → Bool
-tentative_status Tentative = true
-tentative_status Empty = false
-tentative_status Permanent = false
-tentative_status Protected = false
 
 abbrev pub is_file : Placed → Bool
 is_file p = file_status p.status

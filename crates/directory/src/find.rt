@@ -5,20 +5,19 @@ ghost use Rattle.directory.specs.Finds.{is_file, is_tentative, is_named, first_n
 use crate::placed::Placed;
 use crate::walk::Entries;
 use codec::name::Name;
-use volume::entry::Status;
 
 // Whether an entry is a file's.
 pub fn is_file(entry: Placed) -> bool
     ensures { result ≡ is_file entry }
 {
-    matches!(entry.status, Status::Permanent | Status::Protected)
+    entry.status.is_file()
 }
 
 // Whether an entry is tentative.
 pub fn is_tentative(entry: Placed) -> bool
     ensures { result ≡ is_tentative entry }
 {
-    matches!(entry.status, Status::Tentative)
+    entry.status.is_tentative()
 }
 
 // Whether an entry is the file of a name.

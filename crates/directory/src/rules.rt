@@ -31,14 +31,9 @@ struct Segments<'a> {
 // The same, where the entries of each segment are lawful.
 #[derive(Clone, Copy)]
 struct Lawful<'a> {
-    dir: &'a [u8],
-    order: &'a [usize],
-    extra: u16,
-    first: u32,
-    ghost readable: { AllByRecursion (Readable extra dir.now) order.now } by { All-prop (Readable extra dir.now) (Readable-prop extra dir.now) order.now },
-    ghost few: { length order.now ≤ 31 },
-    ghost low: { first ≤ 65535 },
-    ghost short: { extra ≤ 64 },
+    segments: Segments<'a>,
+    ghost readable: { AllByRecursion (Readable segments.extra segments.dir.now) segments.order.now } by { All-prop (Readable segments.extra segments.dir.now) (Readable-prop segments.extra segments.dir.now) segments.order.now },
+    ghost short: { segments.extra ≤ 64 },
 }
 
 // Whether a segment has so many extra bytes to an entry.
@@ -138,13 +133,7 @@ impl<'a> Segments<'a> {
         if !self.all_lawful() {
             return Err(Rule::Entries);
         }
-        let lawful = Lawful {
-            dir: self.dir,
-            order: self.order,
-            extra: self.extra,
-            first: self.first,
-        };
-        lawful.check(blocks, output)
+        Lawful { segments: self }.check(blocks, output)
     }
 }
 
@@ -152,19 +141,24 @@ impl<'a> Lawful<'a> {
     ghost use Rattle.directory.specs.Entries.{entries_left};
 
     fn entries(self) -> Entries<'a>
-        ensures { entries_left result ≡ all_placed self.entry.extra self.entry.dir.now self.entry.order.now self.entry.first }
+        ensures { let s = self.entry.segments in entries_left result ≡ all_placed s.extra s.dir.now s.order.now s.first }
     {
-        Entries::new(self.dir, self.order, self.extra, first_spot(self.first))
+        Entries::new(
+            self.segments.dir,
+            self.segments.order,
+            self.segments.extra,
+            first_spot(self.segments.first),
+        )
     }
 
     // Rule 6 of an open output.
     fn pending_stands(self, output: Pending) -> bool
-        ensures { result ≡ pending_stands self.entry.extra self.entry.dir.now self.entry.order.now output }
+        ensures { let s = self.entry.segments in result ≡ pending_stands s.extra s.dir.now s.order.now output }
     {
-        self.order.contains(&output.segment)
+        self.segments.order.contains(&output.segment)
             && entries_stand(
-                segment_at(self.dir, output.segment),
-                self.extra,
+                segment_at(self.segments.dir, output.segment),
+                self.segments.extra,
                 output.index,
                 &output.entries,
             )
@@ -172,7 +166,7 @@ impl<'a> Lawful<'a> {
 
     // Rule 6 of the tentative entries: none but that of an open output.
     fn open_stands(self, output: Option<Pending>) -> bool
-        ensures { result ≡ open_stands self.entry.extra self.entry.dir.now self.entry.order.now output (all_placed self.entry.extra self.entry.dir.now self.entry.order.now self.entry.first) }
+        ensures { let s = self.entry.segments in result ≡ open_stands s.extra s.dir.now s.order.now output (all_placed s.extra s.dir.now s.order.now s.first) }
     {
         let count = self.entries().count_tentative();
         match output {
@@ -183,21 +177,21 @@ impl<'a> Lawful<'a> {
 
     // Rule 7.
     fn contiguous(self, blocks: u32) -> bool
-        ensures { result ≡ contiguous_from self.entry.extra self.entry.dir.now blocks self.entry.first self.entry.order.now }
+        ensures { let s = self.entry.segments in result ≡ contiguous_from s.extra s.dir.now blocks s.first s.order.now }
     {
-        let mut at = self.first;
-        for k in self.order {
-            if word_at(segment_at(self.dir, *k), 8) as u32 != at {
+        let mut at = self.segments.first;
+        for k in self.segments.order {
+            if word_at(segment_at(self.segments.dir, *k), 8) as u32 != at {
                 return false;
             }
-            at += blocks_in(self.dir, *k, self.extra);
+            at += blocks_in(self.segments.dir, *k, self.segments.extra);
         }
         at == blocks
     }
 
     // Rules 6 (of the tentative entries) to 9, in their order.
     fn check(self, blocks: u32, output: Option<Pending>) -> Result<(), Rule>
-        ensures { told result ≡ broken_late self.entry.extra self.entry.dir.now blocks self.entry.first output self.entry.order.now }
+        ensures { let s = self.entry.segments in told result ≡ broken_late s.extra s.dir.now blocks s.first output s.order.now }
     {
         if !self.open_stands(output) {
             return Err(Rule::Entries);
@@ -219,7 +213,7 @@ impl<'a> Lawful<'a> {
 fn in_use(highest: u16, total: u16) -> bool
     ensures { result ≡ in_use highest total }
 {
-    1 <= highest && highest <= total
+    (1..=total).contains(&highest)
 }
 
 // Rules 3 to 9, in their order. For our other crates: the caller has loaded the directory, and so checked rules 1 and 2.

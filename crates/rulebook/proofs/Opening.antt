@@ -1,9 +1,8 @@
 -- Rule 6: tentative entries, and those of an open output.
-use Rattle.std.proofs.Common.{◌≡◌, ℕ, zero, suc, ◌+◌, ◌*◌, ◌<◌, ◌≤◌, Bool, true, false, cond, not, ◌&&◌, ◌||◌, eqb, leb, List, [], ◌∷◌, length, get_or, Some, None, Decides, Option, sym, refl, ap, ◌∙◌, arith}
+use Rattle.std.proofs.Common.{◌≡◌, ℕ, zero, suc, ◌+◌, ◌*◌, ◌<◌, ◌≤◌, Bool, true, false, cond, not, ◌&&◌, eqb, leb, List, [], ◌∷◌, length, get_or, Some, None, Decides, Option, sym, refl, ap, ◌∙◌, arith}
 use Rattle.std.proofs.ByRecursion.{All-get_or, All-from_get_or, Decides-by_and}
 use Rattle.std.proofs.lemmas.Bool.{eq-eqb, ne_eqb, eqb-true, not-true, true≢false, false≢true}
-use Rattle.std.proofs.lemmas.Bool.Decides.{Decides-and, Decides-not, Decides-like, Decides-eqb, Decides-by_or, Decides-below_and}
-use Rattle.device.specs.Blocks.{any}
+use Rattle.std.proofs.lemmas.Bool.Decides.{Decides-and, Decides-not, Decides-like, Decides-eqb, Decides-by_or}
 use Rattle.volume.specs.declared.entry.Entry.{Entry}
 use Rattle.volume.specs.declared.entry.Status.{Status}
 use Rattle.volume.specs.declared.entry.Status.TheVariants.{Tentative, Empty, Permanent, Protected}
@@ -14,6 +13,7 @@ use Rattle.segment.proofs.Walks.{segment_few}
 use Rattle.directory.specs.declared.placed.Placed.{Placed}
 use Rattle.directory.specs.Finds.{tentative_status, is_tentative, tentatives}
 use Rattle.directory.specs.Rules.{meets, same_bytes, two_in, two_stand}
+use Rattle.directory.proofs.Tests.{same_decided}
 use Rattle.rulebook.specs.Entries.{NoneTentative, OneTentative, TwoStand, RuleSixStatuses}
 use Rattle.rulebook.proofs.Deciding.{decides_leb}
 use Rattle.rulebook.proofs.Listing.{read_stand, stand_read}
@@ -76,18 +76,6 @@ one_tentative ps =
     Decides-like (eqb (tentatives ps) 1) (one_from ps) (λ h. one_of ps h.0 h.1 h.2 h.3) (Decides-eqb (tentatives ps) 1)
 
 -- ---- where the output's entry stands
-
-all_more : (b a : Bool) → not (not b || a) ≡ (b && not a)
-all_more true a = refl
-all_more false a = refl
-
-same_decided : (bytes : List ℕ) (at n : ℕ) (others : List ℕ)
-    → Decides (same_bytes bytes at n others) ((a : ℕ) → a < n → get_or bytes (at + a) 0 ≡ get_or others a 0)
-unfolding same_bytes any
-same_decided bytes at n others =
-    let b : ℕ → Bool = λ a. eqb (get_or bytes (at + a) 0) (get_or others a 0) in
-    Decides-below_and b (λ a. get_or bytes (at + a) 0 ≡ get_or others a 0) (λ m. not (any m (λ a. not (b a))))
-    (λ a. Decides-eqb _ _) refl (λ m. all_more (b m) (any m (λ a. not (b a)))) n
 
 module _ (x : ℕ) (bs : List ℕ) (i : ℕ) (others : List ℕ) where
   two-decided : (es : List Entry)

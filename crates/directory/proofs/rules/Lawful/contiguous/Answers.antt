@@ -7,7 +7,7 @@ use Rattle.directory.proofs.rules.Lawful.contiguous.Goals as goal
 
 pub returns-then-word_at-at : goal.returns-then-word_at-at
 returns-then-word_at-at c =
-    let s = c.args.self in
+    let s = c.args.self.segments in
     let word : c.word_at.result ≡ word_at (segment_at s.dir.now (get_or s.order.now c.loop-k.k-index 0)) 8
     = c.word_at.ensures ∙ ap (λ (z : List ℕ). word_at z 8) c.segment_at.ensures.bytes in
     sym (starts_off s.extra s.dir.now c.args.blocks c.loop-k.at s.order.now c.loop-k.k-index c.loop-k-test.true (λ q. c.if-word_at-at.true (word ∙ q)))
@@ -15,7 +15,7 @@ returns-then-word_at-at c =
 
 pub loop-k-preserved : goal.loop-k-preserved
 loop-k-preserved c =
-    let s = c.args.self in
+    let s = c.args.self.segments in
     let word : c.word_at.result ≡ word_at (segment_at s.dir.now (get_or s.order.now c.loop-k.k-index 0)) 8
     = c.word_at.ensures ∙ ap (λ (z : List ℕ). word_at z 8) c.segment_at.ensures.bytes in (
       omega (arith, c.blocks_in-at.ensures.bound, c.loop-k.invariant.0),
@@ -26,5 +26,5 @@ loop-k-preserved c =
 
 pub returns : goal.returns
 returns c =
-    sym (starts_end c.args.self.extra c.args.self.dir.now c.args.blocks c.loop-k.at c.args.self.order.now c.loop-k.k-index c.loop-k-test.false)
+    sym (starts_end c.args.self.segments.extra c.args.self.segments.dir.now c.args.blocks c.loop-k.at c.args.self.segments.order.now c.loop-k.k-index c.loop-k-test.false)
     ∙ c.loop-k.invariant.1

@@ -5,5 +5,5 @@ use Rattle.directory.proofs.rules.Lawful.entries.Goals as goal
 
 pub new-requires : goal.new-requires
 new-requires c =
-    let s = c.args.self in
-    subst (OnWay s.extra s.dir.now s.order.now) (sym c.first_spot.ensures) (on_whole s.extra s.dir.now s.order.now s.first s.readable s.few s.low)
+    let s = c.args.self.segments in
+    subst (OnWay s.extra s.dir.now s.order.now) (sym c.first_spot.ensures) (on_whole s.extra s.dir.now s.order.now s.first c.args.self.readable s.few s.low)

@@ -15,16 +15,14 @@ unfolding broken_along
 returns-then-not-all_lawful c =
     sym (cond-true _ _ _ (sym c.if-not-extra_sound.ensures) ∙ cond-false _ _ _ (sym c.if-not-all_lawful.ensures))
 
-pub invariant_of-lawful : goal.invariant_of-lawful
-invariant_of-lawful c =
+pub invariant_of-check : goal.invariant_of-check
+invariant_of-check c =
     let s = c.args.self in
     let t = c.if-not-extra_sound.ensures in
     record {
       readable =
           all_both (InDirectory s.dir.now) (lawful_at s.extra s.dir.now) (Readable s.extra s.dir.now) (λ k p q. (p.0, p.1, q)) s.order.now s.inside
           (sym c.if-not-all_lawful.ensures);
-      few = s.few;
-      low = s.low;
       short = grind (arith, nat_tests);
     }
 
