@@ -52,7 +52,7 @@ impl<'a> Entries<'a> {
         self.filter(|entry| is_tentative(*entry)).count()
     }
 
-    // The blocks of the entries together.
+    // The blocks of the entries together. A loop, since a proof of `sum` sees no bound of each length.
     pub(crate) fn sum_blocks(self) -> u32
         ensures sum { result ≡ blocks_in (entries_left self.entry) }
         ensures bound { result ≤ 65535 * length (entries_left self.entry) }
@@ -78,7 +78,7 @@ impl<'a> Entries<'a> {
         !is_file(entry) || self.find_named(entry.name).is_none()
     }
 
-    // Whether no two files have one name.
+    // Whether no two files have one name. No `for`, since each is compared with those that are left behind it.
     pub(crate) fn all_apart(mut self) -> bool
         ensures { result ≡ all_apart (entries_left self.entry) }
     {

@@ -9,9 +9,7 @@ use codec::words::word_at;
 use segment::chain::segment_at;
 use segment::entry::{date_at, length_at, name_at, status_at};
 use segment::walk::entry_start;
-
-// The word that ends a segment.
-const END: u16 = 2048;
+use volume::segment::END;
 
 // The entries of a chain from a spot on, in chain order.
 #[derive(Clone, Copy)]
