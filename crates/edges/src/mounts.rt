@@ -12,10 +12,7 @@ use std::test::Fail;
 
 // The number that a mount or a dismount answers, 0 where it is accepted.
 fn number(answer: Result<(), LevelFault>) -> u8 {
-    match answer {
-        Ok(()) => 0,
-        Err(fault) => fault.number(),
-    }
+    answer.err().map_or(0, |fault| fault.number())
 }
 
 // So many containers are mounted, and the deepest level has so many blocks.

@@ -1,6 +1,6 @@
 // Runs on packs that lie on windows and floppies.
 use crate::floppies::sector_at;
-use crate::memory::{patterned, put, same};
+use crate::memory::{patterned, put};
 use crate::runs::{Given, Told, play};
 use crate::volumes::lay_out;
 use device::image::Image;
@@ -23,13 +23,10 @@ const ACCEPTED: &[u8] = b"00001 01 00 0000000\n";
 
 // The bytes that a floppy over this memory shows, sector by sector.
 fn gathered(heap: Global, memory: &[u8]) -> Result<Vec<u8>, AllocError> {
-    let mut shown = Vec::new(heap);
-    for l in 0..1976 {
-        for byte in memory.iter().skip(sector_at(l)).take(128) {
-            shown.push(*byte)?;
-        }
-    }
-    Ok(shown)
+    (0..1976)
+        .flat_map(|l| memory.iter().skip(sector_at(l)).take(128))
+        .copied()
+        .collect(heap)
 }
 
 // Puts them back.
@@ -66,7 +63,7 @@ fn try_on_window(
     let mut memory = patterned(heap, 51_200)?;
     let mut pack = Pack::over(Window::over(Image::over(memory.as_mut_slice(), bad), start, 50));
     play(rt, heap, &mut pack, RUN, Told { lines, end: 0 })?;
-    assert!(rt; same(pack.levels().below().below().bytes(), expected));
+    assert!(rt; pack.levels().below().below().bytes() == expected);
     Ok(())
 }
 
@@ -108,7 +105,7 @@ fn try_on_floppy(
     let mut memory = patterned(heap, 256_512)?;
     let mut pack = Pack::over(Floppy::over(Image::over(memory.as_mut_slice(), bad)));
     play(rt, heap, &mut pack, RUN, Told { lines, end: 0 })?;
-    assert!(rt; same(pack.levels().below().below().bytes(), expected));
+    assert!(rt; pack.levels().below().below().bytes() == expected);
     Ok(())
 }
 
@@ -143,7 +140,7 @@ fn try_on_pile(
     };
     play(rt, heap, &mut pack, RUN, told)?;
     let window = pack.levels().below();
-    assert!(rt; same(window.below().below().below().bytes(), expected));
+    assert!(rt; window.below().below().below().bytes() == expected);
     Ok(())
 }
 

@@ -1,6 +1,6 @@
 // INITIALIZE: its range, the blocks that may refuse it, and every byte that it leaves.
 use crate::counting::Counting;
-use crate::memory::{patterned, put, put_words, same, zero};
+use crate::memory::{patterned, put, put_words, zero};
 use device::fault::DeviceFault;
 use device::image::Image;
 use std::alloc::Global;
@@ -11,13 +11,14 @@ use volume::initial::initialize;
 
 // The sum of the 255 words that the home block begins with, modulo 65,536.
 fn home_sum(memory: &[u8]) -> u16 {
-    let mut sum = 0u16;
-    for pair in memory.chunks(2).skip(256).take(255) {
-        if let [low, high] = pair {
-            sum = sum.wrapping_add(u16::from_le_bytes([*low, *high]));
-        }
-    }
-    sum
+    memory
+        .chunks(2)
+        .skip(256)
+        .take(255)
+        .fold(0u16, |sum, pair| match pair {
+            [low, high] => sum.wrapping_add(u16::from_le_bytes([*low, *high])),
+            _ => sum,
+        })
 }
 
 // Does to the memory of a level of so many blocks what INITIALIZE does.
@@ -65,7 +66,7 @@ fn try_initialize(
         level
     );
     assert!(rt;
-        same(image.bytes(), expected.as_slice()),
+        image.bytes() == expected.as_slice(),
         "{}; {}",
         segments,
         level
