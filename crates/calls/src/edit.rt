@@ -20,9 +20,7 @@ pub(crate) fn delete_in<D: Device>(d: &mut D, dir: &mut [u8], name: Name) -> Res
     ensures after { Became (D.Device.held d.old).stack (plan_blocks (shows (D.Device.held d.old)) (delete_change (value_of dir.old) name)) (D.Device.held d.new).stack }
     ensures fixed { D.Device.fixed d.new ≡ D.Device.fixed d.old }
 {
-    let Some(file) = find_place(dir, name) else {
-        return Err(FileFault::NoSuchFile);
-    };
+    let file = find_place(dir, name).ok_or(FileFault::NoSuchFile)?;
     if file.protected {
         return Err(FileFault::Protected);
     }

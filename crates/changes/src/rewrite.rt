@@ -1,4 +1,5 @@
 // Changes of one segment of the directory in the workspace.
+// Segment and index stay two numbers: `FilePlace`, which holds both, is of a crate beside this one.
 ghost use Rattle.std.specs.Prelude.{◌≡◌, ◌≤◌, [], ◌∷◌};
 ghost use Rattle.std.specs.Fn.{FnOnceTakesAtMut, FnOnceReturnsAtMut};
 ghost use Rattle.arrayvec.specs.ArrayVec.{ArrayVec, array_vec_len};
@@ -29,7 +30,8 @@ fn rewrite<F: FnOnce(&mut Slots)>(dir: &mut [u8], k: usize, change: F)
     put_segment(dir, k, &header, all_entries(&slots));
 }
 
-// Makes entry i of segment k empty. For our other crates, as those below: the caller has found the directory sound, and the entry there.
+// Makes entry i of segment k empty. For our other crates, as those below: the caller has found the directory sound, and the
+// entry there.
 pub fn empty_at(dir: &mut [u8], k: usize, i: usize)
     requires { EntryIn dir.old k i }
     ensures { dir.new ≡ with_entries dir.old k (emptied i) }

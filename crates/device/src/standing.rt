@@ -1,4 +1,4 @@
-// Whether a layer can stand over what is below it.
+// Whether a layer can stand over what is below it: an answer and no refusal, since a layer that does not fit shows 0 blocks.
 ghost use Rattle.std.specs.Prelude.{◌≡◌};
 ghost use Rattle.device.specs.Faults.{standing_number};
 

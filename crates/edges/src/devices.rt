@@ -123,19 +123,21 @@ fn thirty_two_bad_blocks_count(rt: HostRuntime) -> Result<(), Fail> {
     Ok(())
 }
 
+// Blocks 0 to 39 are zeros, but for the one that was written.
+pub fn forty_blocks<D: Device>(rt: &impl Abort, d: &D, written: Option<u32>) {
+    for b in 0..40 {
+        let byte = if written == Some(b) { 0x5A } else { 0 };
+        let mut buffer = [0xA5; 512];
+        assert_eq!(rt; d.read(b, &mut buffer), Ok(()));
+        assert!(rt; buffer == [byte; 512], "{}", b);
+    }
+}
+
 #[test]
 fn scratch_has_40_blocks(rt: HostRuntime) {
     let mut scratch = Scratch::new();
     refuses_past(&rt, &mut scratch, 40);
-    for b in 0..40 {
-        let mut buffer = [0xA5; 512];
-        assert_eq!(rt; scratch.read(b, &mut buffer), Ok(()));
-        assert!(rt; buffer == [0; 512], "{}", b);
-    }
+    forty_blocks(&rt, &scratch, None);
     assert_eq!(rt; scratch.write(39, &[0x5A; 512]), Ok(()));
-    for b in 0..40 {
-        let mut buffer = [0xA5; 512];
-        assert_eq!(rt; scratch.read(b, &mut buffer), Ok(()));
-        assert!(rt; buffer == [if b == 39 { 0x5A } else { 0 }; 512], "{}", b);
-    }
+    forty_blocks(&rt, &scratch, Some(39));
 }

@@ -3,11 +3,12 @@ ghost use Rattle.std.specs.Prelude.{◌≤◌};
 
 use crate::counting::Counting;
 use crate::devices::{refuses, refuses_past};
-use crate::memory::{pattern, patterned, put, same, untouched};
+use crate::memory::{pattern, patterned, put, untouched};
 use device::Device;
 use device::fault::DeviceFault;
 use device::image::Image;
 use floppy::Floppy;
+use std::array;
 use std::process::Abort;
 use std::test::Fail;
 
@@ -23,42 +24,33 @@ pub fn sector_at(l: u16) -> usize {
 
 // The blocks below that hold the sectors of block b.
 fn blocks_below(b: u16) -> [usize; 4] {
-    let l = b.wrapping_mul(4);
-    [
-        sector_at(l) / 512,
-        sector_at(l.wrapping_add(1)) / 512,
-        sector_at(l.wrapping_add(2)) / 512,
-        sector_at(l.wrapping_add(3)) / 512,
-    ]
+    let first = b.wrapping_mul(4);
+    [0, 1, 2, 3].map(|i| sector_at(first.wrapping_add(i)) / 512)
 }
 
 // How many of four are different.
 fn distinct(four: [usize; 4]) -> u32
     ensures { result ≤ 4 }
 {
-    let [a, b, c, d] = four;
-    let second = u32::from(b != a);
-    let third = u32::from(c != a && c != b);
-    let fourth = u32::from(d != a && d != b && d != c);
-    1 + second + third + fourth
+    let firsts = four
+        .iter()
+        .enumerate()
+        .filter(|(i, block)| !four[..*i].contains(block));
+    firsts.count() as u32
 }
 
 // 512 bytes that differ from block to block.
 fn bytes_of(b: u16) -> [u8; 512] {
-    let mut bytes = [0; 512];
-    for i in 0..512 {
-        bytes[i] = pattern(1_000_003 + 512 * usize::from(b) + i);
-    }
-    bytes
+    let first = 1_000_003 + 512 * usize::from(b);
+    array::from_fn(|i| pattern(first + i))
 }
 
 // Puts the sectors of block b where they lie.
 fn put_block(memory: &mut [u8], b: u16, bytes: &[u8; 512]) {
-    let l = b.wrapping_mul(4);
-    put(memory, sector_at(l), &bytes[0..128]);
-    put(memory, sector_at(l.wrapping_add(1)), &bytes[128..256]);
-    put(memory, sector_at(l.wrapping_add(2)), &bytes[256..384]);
-    put(memory, sector_at(l.wrapping_add(3)), &bytes[384..512]);
+    let first = b.wrapping_mul(4);
+    for (l, sector) in (first..).zip(bytes.chunks(128)) {
+        put(memory, sector_at(l), sector);
+    }
 }
 
 // A floppy over this memory has this standing and shows so many blocks.
@@ -90,7 +82,7 @@ fn try_sectors(rt: &impl Abort, memory: &mut [u8], expected: &mut [u8]) {
         let bytes = bytes_of(b);
         put_block(expected, b, &bytes);
         assert_eq!(rt; floppy.write(u32::from(b), &bytes), Ok(()));
-        assert!(rt; same(floppy.below().bytes(), expected), "{}", b);
+        assert!(rt; floppy.below().bytes() == &*expected, "{}", b);
     }
     for b in 0..494u16 {
         let mut buffer = [0; 512];

@@ -7,39 +7,31 @@ pub fn pattern(i: usize) -> u8 {
 }
 
 pub fn patterned(heap: Global, size: usize) -> Result<Vec<u8>, AllocError> {
-    let mut memory = Vec::with_capacity(heap, size)?;
-    for i in 0..size {
-        memory.push(pattern(i))?;
-    }
-    Ok(memory)
+    (0..size).map(pattern).collect(heap)
+}
+
+// Whether these are bytes of the pattern, from this one on.
+fn goes_on(bytes: &[u8], from: usize) -> bool {
+    bytes
+        .iter()
+        .zip(from..)
+        .all(|(byte, i)| *byte == pattern(i))
 }
 
 // Whether every byte is as `patterned` left it.
 pub fn untouched(bytes: &[u8]) -> bool {
-    for (i, byte) in bytes.iter().enumerate() {
-        if *byte != pattern(i) {
-            return false;
-        }
-    }
-    true
+    goes_on(bytes, 0)
 }
 
 // Whether the bytes from `at` on are these, and all others as `patterned` left them.
 pub fn replaced(bytes: &[u8], at: usize, by: &[u8]) -> bool {
-    if at > bytes.len() || by.len() > bytes.len() - at {
+    let Some((before, others)) = bytes.split_at_checked(at) else {
         return false;
-    }
-    for (i, byte) in bytes.iter().enumerate() {
-        let expected = if i >= at && i - at < by.len() {
-            by[i - at]
-        } else {
-            pattern(i)
-        };
-        if *byte != expected {
-            return false;
-        }
-    }
-    true
+    };
+    let Some(behind) = others.strip_prefix(by) else {
+        return false;
+    };
+    untouched(before) && goes_on(behind, at + by.len())
 }
 
 // Writes bytes from `at` on, as far as there is memory.
@@ -51,10 +43,9 @@ pub fn put(memory: &mut [u8], at: usize, bytes: &[u8]) {
 
 // Writes words from `at` on, low byte first.
 pub fn put_words(memory: &mut [u8], at: usize, words: &[u16]) {
-    let mut at = at;
-    for word in words {
-        put(memory, at, &word.to_le_bytes());
-        at = at.wrapping_add(2);
+    let bytes = words.iter().flat_map(|word| word.to_le_bytes());
+    for (place, byte) in memory.iter_mut().skip(at).zip(bytes) {
+        *place = byte;
     }
 }
 
@@ -62,8 +53,4 @@ pub fn zero(memory: &mut [u8], at: usize, size: usize) {
     for place in memory.iter_mut().skip(at).take(size) {
         *place = 0;
     }
-}
-
-pub fn same(left: &[u8], right: &[u8]) -> bool {
-    left == right
 }

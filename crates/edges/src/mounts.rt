@@ -1,5 +1,5 @@
 // Levels: mounts at the edges of the level around, and the depth of 7.
-use crate::devices::{refuses, refuses_past};
+use crate::devices::{forty_blocks, refuses, refuses_past};
 use crate::memory::{patterned, replaced, untouched};
 use device::Device;
 use device::fault::DeviceFault;
@@ -12,10 +12,7 @@ use std::test::Fail;
 
 // The number that a mount or a dismount answers, 0 where it is accepted.
 fn number(answer: Result<(), LevelFault>) -> u8 {
-    match answer {
-        Ok(()) => 0,
-        Err(fault) => fault.number(),
-    }
+    answer.err().map_or(0, |fault| fault.number())
 }
 
 // So many containers are mounted, and the deepest level has so many blocks.
@@ -89,11 +86,7 @@ fn seven_mounts(rt: HostRuntime) -> Result<(), Fail> {
         shows(&rt, &mut levels, depth, blocks);
     }
     assert_eq!(rt; number(levels.dismount()), 13);
-    for b in 0..40 {
-        let mut buffer = [0xA5; 512];
-        assert_eq!(rt; levels.read(b, &mut buffer), Ok(()));
-        assert!(rt; buffer == [if b == 7 { 0x5A } else { 0 }; 512], "{}", b);
-    }
+    forty_blocks(&rt, &levels, Some(7));
     Ok(())
 }
 

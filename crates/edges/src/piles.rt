@@ -1,6 +1,6 @@
 // Runs on packs that lie on windows and floppies.
 use crate::floppies::sector_at;
-use crate::memory::{patterned, put, same};
+use crate::memory::{patterned, put};
 use crate::runs::{Given, Told, play};
 use crate::volumes::lay_out;
 use device::image::Image;
@@ -23,13 +23,10 @@ const ACCEPTED: &[u8] = b"00001 01 00 0000000\n";
 
 // The bytes that a floppy over this memory shows, sector by sector.
 fn gathered(heap: Global, memory: &[u8]) -> Result<Vec<u8>, AllocError> {
-    let mut shown = Vec::new(heap);
-    for l in 0..1976 {
-        for byte in memory.iter().skip(sector_at(l)).take(128) {
-            shown.push(*byte)?;
-        }
-    }
-    Ok(shown)
+    (0..1976)
+        .flat_map(|l| memory.iter().skip(sector_at(l)).take(128))
+        .copied()
+        .collect(heap)
 }
 
 // Puts them back.
@@ -41,13 +38,12 @@ fn scatter(memory: &mut [u8], shown: &[u8]) {
 
 // Does to the memory under a floppy what INITIALIZE with 2 segments does to so many blocks from `start` of the floppy.
 fn lay_out_floppy(
-    rt: &impl Abort,
-    heap: Global,
+    rt: &(impl Abort + AllocGlobal),
     memory: &mut [u8],
     start: usize,
     blocks: u16,
 ) -> Result<(), Fail> {
-    let mut shown = gathered(heap, memory)?;
+    let mut shown = gathered(rt.alloc(), memory)?;
     assert!(rt; start <= 252_928 && shown.len() == 252_928);
     lay_out(&mut shown.as_mut_slice()[start..], 2, blocks);
     scatter(memory, shown.as_slice());
@@ -56,82 +52,57 @@ fn lay_out_floppy(
 
 // The same run on a pack that lies on 50 blocks of an image of 100.
 fn try_on_window(
-    rt: &impl Abort,
-    heap: Global,
+    rt: &(impl Abort + AllocGlobal),
     bad: &[u32],
     start: u32,
     lines: &[u8],
     expected: &[u8],
 ) -> Result<(), Fail> {
-    let mut memory = patterned(heap, 51_200)?;
+    let mut memory = patterned(rt.alloc(), 51_200)?;
     let mut pack = Pack::over(Window::over(Image::over(memory.as_mut_slice(), bad), start, 50));
-    play(rt, heap, &mut pack, RUN, Told { lines, end: 0 })?;
-    assert!(rt; same(pack.levels().below().below().bytes(), expected));
+    play(rt, &mut pack, RUN, Told { lines, end: 0 })?;
+    assert!(rt; pack.levels().below().below().bytes() == expected);
     Ok(())
 }
 
 #[test]
 fn a_pack_on_a_window(rt: HostRuntime) -> Result<(), Fail> {
-    let heap = rt.alloc();
-    let mut expected = patterned(heap, 51_200)?;
+    let mut expected = patterned(rt.alloc(), 51_200)?;
     // the directory's first block is block 9 of the image
-    try_on_window(
-        &rt,
-        heap,
-        &[9],
-        3,
-        b"00001 01 02 0000006\n",
-        expected.as_slice(),
-    )?;
+    try_on_window(&rt, &[9], 3, b"00001 01 02 0000006\n", expected.as_slice())?;
     // a window that does not stand has no blocks
-    try_on_window(
-        &rt,
-        heap,
-        &[],
-        51,
-        b"00001 01 12 0000000\n",
-        expected.as_slice(),
-    )?;
+    try_on_window(&rt, &[], 51, b"00001 01 12 0000000\n", expected.as_slice())?;
     assert!(rt; expected.len() == 51_200);
     lay_out(&mut expected.as_mut_slice()[1536..], 2, 50);
-    try_on_window(&rt, heap, &[], 3, ACCEPTED, expected.as_slice())
+    try_on_window(&rt, &[], 3, ACCEPTED, expected.as_slice())
 }
 
 // The same run on a pack that lies on a floppy over an image of 501 blocks.
 fn try_on_floppy(
-    rt: &impl Abort,
-    heap: Global,
+    rt: &(impl Abort + AllocGlobal),
     bad: &[u32],
     lines: &[u8],
     expected: &[u8],
 ) -> Result<(), Fail> {
-    let mut memory = patterned(heap, 256_512)?;
+    let mut memory = patterned(rt.alloc(), 256_512)?;
     let mut pack = Pack::over(Floppy::over(Image::over(memory.as_mut_slice(), bad)));
-    play(rt, heap, &mut pack, RUN, Told { lines, end: 0 })?;
-    assert!(rt; same(pack.levels().below().below().bytes(), expected));
+    play(rt, &mut pack, RUN, Told { lines, end: 0 })?;
+    assert!(rt; pack.levels().below().below().bytes() == expected);
     Ok(())
 }
 
 #[test]
 fn a_pack_on_a_floppy(rt: HostRuntime) -> Result<(), Fail> {
-    let heap = rt.alloc();
-    let mut expected = patterned(heap, 256_512)?;
+    let mut expected = patterned(rt.alloc(), 256_512)?;
     // block 12 below holds the first sector of the floppy's block 6, on track 1 as sector 24, and none of block 1
-    try_on_floppy(
-        &rt,
-        heap,
-        &[12],
-        b"00001 01 02 0000006\n",
-        expected.as_slice(),
-    )?;
-    lay_out_floppy(&rt, heap, expected.as_mut_slice(), 0, 494)?;
-    try_on_floppy(&rt, heap, &[], ACCEPTED, expected.as_slice())
+    try_on_floppy(&rt, &[12], b"00001 01 02 0000006\n", expected.as_slice())?;
+    lay_out_floppy(&rt, expected.as_mut_slice(), 0, 494)?;
+    try_on_floppy(&rt, &[], ACCEPTED, expected.as_slice())
 }
 
 // The same run on 300 blocks from block 100 of a floppy, which lies on 505 blocks from block 4 of an image.
 fn try_on_pile(
-    rt: &impl Abort,
-    heap: Global,
+    rt: &(impl Abort + AllocGlobal),
     memory: &mut [u8],
     expected: &[u8],
 ) -> Result<(), Fail> {
@@ -141,18 +112,17 @@ fn try_on_pile(
         lines: ACCEPTED,
         end: 0,
     };
-    play(rt, heap, &mut pack, RUN, told)?;
+    play(rt, &mut pack, RUN, told)?;
     let window = pack.levels().below();
-    assert!(rt; same(window.below().below().below().bytes(), expected));
+    assert!(rt; window.below().below().below().bytes() == expected);
     Ok(())
 }
 
 #[test]
 fn a_pack_on_a_pile(rt: HostRuntime) -> Result<(), Fail> {
-    let heap = rt.alloc();
-    let mut memory = patterned(heap, 512 * 510)?;
-    let mut expected = patterned(heap, 512 * 510)?;
+    let mut memory = patterned(rt.alloc(), 512 * 510)?;
+    let mut expected = patterned(rt.alloc(), 512 * 510)?;
     assert!(rt; expected.len() == 512 * 510);
-    lay_out_floppy(&rt, heap, &mut expected.as_mut_slice()[2048..], 51_200, 300)?;
-    try_on_pile(&rt, heap, memory.as_mut_slice(), expected.as_slice())
+    lay_out_floppy(&rt, &mut expected.as_mut_slice()[2048..], 51_200, 300)?;
+    try_on_pile(&rt, memory.as_mut_slice(), expected.as_slice())
 }

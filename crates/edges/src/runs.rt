@@ -30,14 +30,13 @@ pub struct Told<'a> {
 
 // Runs on a pack: the lines and the end are as told, and the report keeps its bytes behind the lines.
 pub fn play<D: Device>(
-    rt: &impl Abort,
-    heap: Global,
+    rt: &(impl Abort + AllocGlobal),
     pack: &mut Pack<D>,
     given: Given,
     told: Told,
 ) -> Result<(), Fail> {
-    let mut work = vec![in heap; 0u8; given.work]?;
-    let mut report = patterned(heap, given.room)?;
+    let mut work = vec![in rt.alloc(); 0u8; given.work]?;
+    let mut report = patterned(rt.alloc(), given.room)?;
     let ran = run(pack, given.run, work.as_mut_slice(), report.as_mut_slice());
     assert_eq!(rt;
         ran.number(),
@@ -67,20 +66,19 @@ pub fn play<D: Device>(
 
 // Runs on a pack of 100 blocks, which is left as by INITIALIZE with so many segments, or untouched where there are none.
 fn play_on_image(
-    rt: &impl Abort,
-    heap: Global,
+    rt: &(impl Abort + AllocGlobal),
     bad: &[u32],
     given: Given,
     told: Told,
     segments: u8,
 ) -> Result<(), Fail> {
-    let mut memory = patterned(heap, 51_200)?;
-    let mut expected = patterned(heap, 51_200)?;
+    let mut memory = patterned(rt.alloc(), 51_200)?;
+    let mut expected = patterned(rt.alloc(), 51_200)?;
     if segments > 0 {
         lay_out(expected.as_mut_slice(), segments, 100);
     }
     let mut pack = Pack::over(Image::over(memory.as_mut_slice(), bad));
-    play(rt, heap, &mut pack, given, told)?;
+    play(rt, &mut pack, given, told)?;
     assert_eq!(rt; pack.levels().depth(), 0, "{}", given.case);
     assert!(rt;
         pack.levels().below().bytes() == expected.as_slice(),
@@ -106,7 +104,7 @@ fn cut_at_every_byte(rt: HostRuntime) -> Result<(), Fail> {
             lines: &ACCEPTED[0..20 * whole],
             end: if cut % 4 == 0 { 0 } else { 17 },
         };
-        play_on_image(&rt, rt.alloc(), &[], given, told, whole as u8)?;
+        play_on_image(&rt, &[], given, told, whole as u8)?;
     }
     Ok(())
 }
@@ -143,7 +141,7 @@ fn small_reports(rt: HostRuntime) -> Result<(), Fail> {
             lines: &ACCEPTED[0..20 * lines],
             end,
         };
-        play_on_image(&rt, rt.alloc(), &[], given, told, lines as u8)?;
+        play_on_image(&rt, &[], given, told, lines as u8)?;
     }
     Ok(())
 }
@@ -188,7 +186,7 @@ fn long_runs_and_small_workspaces(rt: HostRuntime) -> Result<(), Fail> {
             room: 107,
             case: run.len(),
         };
-        play_on_image(&rt, heap, &[], given, Told { lines, end }, segments)?;
+        play_on_image(&rt, &[], given, Told { lines, end }, segments)?;
     }
     Ok(())
 }
@@ -208,7 +206,7 @@ fn unknown_tags(rt: HostRuntime) -> Result<(), Fail> {
             lines: b"00001 01 00 0000000\n00002 00 16 0000000\n00003 01 00 0000000\n",
             end: 0,
         };
-        play_on_image(&rt, rt.alloc(), &[], given, told, 2)?;
+        play_on_image(&rt, &[], given, told, 2)?;
     }
     Ok(())
 }
@@ -237,7 +235,7 @@ fn refused_fields(rt: HostRuntime) -> Result<(), Fail> {
             room: 27,
             case: bad as usize,
         };
-        play_on_image(&rt, heap, &[bad], given, Told { lines, end: 0 }, 0)?;
+        play_on_image(&rt, &[bad], given, Told { lines, end: 0 }, 0)?;
     }
     Ok(())
 }
@@ -273,7 +271,7 @@ fn as_many_fields_as_fit(rt: HostRuntime) -> Result<(), Fail> {
             lines: lines.as_slice(),
             end,
         };
-        play_on_image(&rt, heap, &[], given, told, 0)?;
+        play_on_image(&rt, &[], given, told, 0)?;
     }
     Ok(())
 }

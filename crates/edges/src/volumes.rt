@@ -1,9 +1,8 @@
 // INITIALIZE: its range, the blocks that may refuse it, and every byte that it leaves.
 use crate::counting::Counting;
-use crate::memory::{patterned, put, put_words, same, zero};
+use crate::memory::{patterned, put, put_words, zero};
 use device::fault::DeviceFault;
 use device::image::Image;
-use std::alloc::Global;
 use std::process::Abort;
 use std::test::Fail;
 use volume::fault::FileFault;
@@ -11,13 +10,14 @@ use volume::initial::initialize;
 
 // The sum of the 255 words that the home block begins with, modulo 65,536.
 fn home_sum(memory: &[u8]) -> u16 {
-    let mut sum = 0u16;
-    for pair in memory.chunks(2).skip(256).take(255) {
-        if let [low, high] = pair {
-            sum = sum.wrapping_add(u16::from_le_bytes([*low, *high]));
-        }
-    }
-    sum
+    memory
+        .chunks(2)
+        .skip(256)
+        .take(255)
+        .fold(0u16, |sum, pair| match pair {
+            [low, high] => sum.wrapping_add(u16::from_le_bytes([*low, *high])),
+            _ => sum,
+        })
 }
 
 // Does to the memory of a level of so many blocks what INITIALIZE does.
@@ -42,8 +42,7 @@ pub fn lay_out(memory: &mut [u8], segments: u8, blocks: u16) {
 
 // INITIALIZE over an image of so many blocks, of which a level has V: where it is refused no byte changes.
 fn try_initialize(
-    rt: &impl Abort,
-    heap: Global,
+    rt: &(impl Abort + AllocGlobal),
     image: usize,
     bad: &[u32],
     segments: u8,
@@ -51,8 +50,8 @@ fn try_initialize(
     answer: Result<(), FileFault>,
 ) -> Result<(), Fail> {
     let size = image.saturating_mul(512).saturating_add(7);
-    let mut memory = patterned(heap, size)?;
-    let mut expected = patterned(heap, size)?;
+    let mut memory = patterned(rt.alloc(), size)?;
+    let mut expected = patterned(rt.alloc(), size)?;
     if answer.is_ok() {
         lay_out(expected.as_mut_slice(), segments, level);
     }
@@ -65,7 +64,7 @@ fn try_initialize(
         level
     );
     assert!(rt;
-        same(image.bytes(), expected.as_slice()),
+        image.bytes() == expected.as_slice(),
         "{}; {}",
         segments,
         level
@@ -83,7 +82,7 @@ fn segments_and_blocks_in_range(rt: HostRuntime) -> Result<(), Fail> {
                 Err(FileFault::OutOfRange)
             };
             let image = usize::from(blocks);
-            try_initialize(&rt, rt.alloc(), image, &[], segments, blocks, answer)?;
+            try_initialize(&rt, image, &[], segments, blocks, answer)?;
         }
     }
     assert_eq!(rt; FileFault::OutOfRange.number(), 12);
@@ -108,20 +107,20 @@ fn bad_blocks(rt: HostRuntime) -> Result<(), Fail> {
     ];
     for (bad, told) in refused {
         let fault = FileFault::OfDevice(DeviceFault::BadBlock(told));
-        try_initialize(&rt, rt.alloc(), 100, &bad, 2, 100, Err(fault))?;
+        try_initialize(&rt, 100, &bad, 2, 100, Err(fault))?;
         assert_eq!(rt; fault.number(), 2);
         assert_eq!(rt; fault.detail(), told);
     }
     for bad in [[0, 2], [3, 4], [5, 10], [11, 99], [100, u32::MAX]] {
-        try_initialize(&rt, rt.alloc(), 100, &bad, 2, 100, Ok(()))?;
+        try_initialize(&rt, 100, &bad, 2, 100, Ok(()))?;
     }
     Ok(())
 }
 
 #[test]
 fn a_level_has_at_most_65535_blocks(rt: HostRuntime) -> Result<(), Fail> {
-    try_initialize(&rt, rt.alloc(), 65_535, &[], 1, 65_535, Ok(()))?;
-    try_initialize(&rt, rt.alloc(), 65_536, &[], 1, 65_535, Ok(()))
+    try_initialize(&rt, 65_535, &[], 1, 65_535, Ok(()))?;
+    try_initialize(&rt, 65_536, &[], 1, 65_535, Ok(()))
 }
 
 // INITIALIZE on 100 blocks reads and writes so many, and is refused where it writes none.

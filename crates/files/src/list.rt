@@ -3,10 +3,8 @@ ghost use Rattle.std.specs.Prelude.{◌≡◌, ◌≤◌, length, IfOk, None};
 ghost use Rattle.device.specs.Held.{shows};
 ghost use Rattle.files.specs.Directories.{level_listing, directory_answer, directory_after};
 
-use codec::words::word_at;
 use device::Device;
-use directory::rules::in_order;
-use directory::sound::{first_block, sound_chain};
+use directory::sound::Sound;
 use level::check::check;
 use level::load::directory_of;
 use listing::write::write_listing;
@@ -23,16 +21,7 @@ pub(crate) fn list_level<D: Device>(
     ensures fits { IfOk result (λ n. n ≤ length listing.new) }
 {
     let total = check(d, work, None)?;
-    let dir = directory_of(work, total);
-    let chain = sound_chain(dir);
-    match write_listing(
-        dir,
-        in_order(&chain),
-        word_at(dir, 6),
-        first_block(dir),
-        listing,
-    ) {
-        Some(length) => Ok(length),
-        None => Err(FileFault::ListingTooSmall),
-    }
+    let directory = Sound::new(directory_of(work, total));
+    let chain = directory.chain();
+    write_listing(directory.entries(&chain), listing).ok_or(FileFault::ListingTooSmall)
 }

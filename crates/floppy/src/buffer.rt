@@ -8,6 +8,7 @@ ghost use Rattle.floppy.specs.Buffers.{is_held, loaded, saved, Current, Readable
 use device::Device;
 use device::fault::DeviceFault;
 
+// The bytes lie beside the block's number, since a read fills them in place.
 #[derive(Drop)]
 pub(crate) struct Buffer {
     pub(crate) block: Option<u32>,

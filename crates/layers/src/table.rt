@@ -21,8 +21,7 @@ impl LevelFault {
         ensures { result ≡ fault_number self }
     {
         match self {
-            LevelFault::TooDeep => 13,
-            LevelFault::NotMounted => 13,
+            LevelFault::TooDeep | LevelFault::NotMounted => 13,
             LevelFault::Outside => 12,
         }
     }

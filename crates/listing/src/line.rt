@@ -3,7 +3,7 @@ ghost use Rattle.std.specs.Prelude.{◌≡◌};
 ghost use Rattle.listing.specs.Listings.{month_name, day_text, date_text, mark, name_text, file_line};
 
 use crate::digits::right_in_five;
-use codec::date::{Date, UnlawfulDate, dated};
+use codec::date::{Date, dated};
 use codec::digits::digit;
 use codec::name::Name;
 use codec::words::put;
@@ -58,10 +58,12 @@ fn day_text(date: Date) -> [u8; 11]
 fn date_text(word: u16) -> [u8; 11]
     ensures { result ≡ date_text word }
 {
-    match dated(word) {
-        Ok(None) => [b' '; 11],
-        Ok(Some(date)) => day_text(date),
-        Err(UnlawfulDate) => *b"??-???-????",
+    let Ok(date) = dated(word) else {
+        return *b"??-???-????";
+    };
+    match date {
+        None => [b' '; 11],
+        Some(date) => day_text(date),
     }
 }
 

@@ -19,12 +19,11 @@ pub(crate) struct Words<'a>(pub(crate) &'a [u8]);
 
 impl fmt::Display for Words<'_> {
     fn fmt<W: fmt::Write>(&self, f: &mut fmt::Formatter<W>) -> fmt::Result {
-        let bytes = self.0;
-        for i in 0..bytes.len() / 2 {
+        for (i, pair) in self.0.chunks_exact(2).enumerate() {
             if i > 0 {
                 f.write_str(" ")?;
             }
-            let word = Octal(word_at(bytes, 2 * i));
+            let word = Octal(word_at(pair, 0));
             write!(f, "{word}")?;
         }
         Ok(())

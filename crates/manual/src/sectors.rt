@@ -3,7 +3,7 @@ ghost use Rattle.std.specs.Prelude.{◌≡◌, ℕ, ◌+◌, ◌*◌, ◌/◌, �
 ghost use Rattle.codec.specs.Words.{word_at};
 
 use crate::paper::{Words, heading, line};
-use codec::words::{high, low, word_at};
+use codec::words::word_at;
 use device::Device;
 use device::fault::DeviceFault;
 use device::image::Image;
@@ -13,14 +13,21 @@ use std::io;
 // The bytes of 501 blocks.
 const IMAGE: usize = 256_512;
 
+// Fills a sector with a word.
+fn fill(sector: &mut [u8], word: u16) {
+    for pair in sector.chunks_exact_mut(2) {
+        pair.copy_from_slice(&word.to_le_bytes());
+    }
+}
+
 // A block of the floppy, sector L filled with the word L + 1.
 fn marked(b: u32) -> [u8; 512]
     requires { b < 494 }
 {
     let mut block = [0; 512];
-    for i in 0..512 {
-        let word = (4 * b as usize + i / 128 + 1) as u16;
-        block[i] = if i % 2 == 0 { low(word) } else { high(word) };
+    let first = (4 * b + 1) as u16;
+    for (word, sector) in (first..first + 4).zip(block.chunks_exact_mut(128)) {
+        fill(sector, word);
     }
     block
 }
@@ -39,25 +46,17 @@ fn write_marks<D: Device>(floppy: &mut D) -> Result<(), DeviceFault> {
 fn is_filled(sector: &[u8], word: u16) -> bool
     ensures { T result → (k : ℕ) → k < length sector.now / 2 → word_at sector.now (2 * k) ≡ word }
 {
-    for i in 0..sector.len() / 2 {
-        if word_at(sector, 2 * i) != word {
-            return false;
-        }
-    }
-    true
+    sector.chunks_exact(2).all(|pair| word_at(pair, 0) == word)
 }
 
 // Where the first sector that is filled with a word begins.
 fn find_filled(image: &[u8], word: u16) -> Option<usize>
     ensures { IfSome result (λ at. at + 128 ≤ length image.now) }
 {
-    for place in 0..image.len() / 128 {
-        let at = 128 * place;
-        if is_filled(&image[at..at + 128], word) {
-            return Some(at);
-        }
-    }
-    None
+    let place = image
+        .chunks_exact(128)
+        .position(|sector| is_filled(sector, word))?;
+    Some(128 * place)
 }
 
 // Where sector L lies.
@@ -108,14 +107,10 @@ fn show_block<D: Device>(rt: &HostRuntime, floppy: &D, b: u32) -> io::Result<()>
 fn count_filled(image: &[u8]) -> usize
     ensures { result ≤ length image.now / 128 }
 {
-    let mut count = 0;
-    for place in 0..image.len() / 128 {
-        let at = 128 * place;
-        if !is_filled(&image[at..at + 128], 0) {
-            count += 1;
-        }
-    }
-    count
+    image
+        .chunks_exact(128)
+        .filter(|sector| !is_filled(sector, 0))
+        .count()
 }
 
 pub(crate) fn sectors(rt: &HostRuntime) -> io::Result<()> {

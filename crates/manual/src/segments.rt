@@ -3,7 +3,7 @@ ghost use Rattle.std.specs.Prelude.{◌≡◌, ◌+◌, ◌*◌, ◌≤◌, leng
 
 use crate::dates::DateWord;
 use crate::paper::{Octal, Text, Words, heading, line};
-use codec::words::{high, low, put, word_at};
+use codec::words::word_at;
 use directory::rules::broken_rule;
 use segment::chain::{chain_of, segment_at};
 use segment::entry::{date_at, length_at, name_at, status_at};
@@ -24,7 +24,7 @@ fn status_name(status: Option<Status>) -> &'static str {
 
 fn status(rt: &HostRuntime, number: u16) -> io::Result<()> {
     let word = Octal(number);
-    let name = status_name(status_at(&[low(number), high(number)], 0));
+    let name = status_name(status_at(&number.to_le_bytes(), 0));
     println!(rt; "  word {word}{:25}{name}", "")
 }
 
@@ -59,8 +59,8 @@ const END: [u16; 1] = [0o4000];
 fn write_words(out: &mut [u8], at: usize, words: &[u16])
     requires { at + 2 * length words.now ≤ length out.old }
 {
-    for (i, &word) in words.iter().enumerate() {
-        put(out, at + 2 * i, &[low(word), high(word)]);
+    for (place, word) in out[at..].chunks_exact_mut(2).zip(words) {
+        place.copy_from_slice(&word.to_le_bytes());
     }
 }
 
@@ -109,6 +109,7 @@ fn show_entries(rt: &HostRuntime, segment: &[u8]) -> io::Result<()>
         return line(rt, "entries", "none lawful");
     };
     line(rt, "entries", count)?;
+    // an entry is found by its index
     for index in 0..count {
         show_entry(rt, index + 1, segment, entry_start(index, extra))?;
     }

@@ -15,7 +15,7 @@ use Rattle.edits.specs.Directories.{entry_named}
 use Rattle.edits.specs.Values.{cleaned, values_of, value_of}
 use Rattle.places.specs.Laws.{Seen, seen_placed, seen_standing, LookupAgrees}
 use Rattle.places.proofs.Along.{cleaned-length}
-use Rattle.places.proofs.Found.{wants_named, passed_same}
+use Rattle.places.proofs.Found.{named_cleaned, passed_same}
 
 module _ (n : Name) where
   within : (k i at : ℕ) (es : List Entry) (rest : List Placed) (ys : List Entry)
@@ -28,11 +28,11 @@ module _ (n : Name) where
       let more = within k (i + 1) (at + e.length) es rest ys (q ∙ ap (λ (z : ℕ). option_map seen_standing (standing (is_named n) z ys)) b) in
       elim (cases_Bool (is_named n (cleaned e))) [
         | inl y ↦
-            ap (option_map seen_placed) (cond-true _ _ _ (wants_named n k i at e ∙ y))
+            ap (option_map seen_placed) (cond-true _ _ _ (named_cleaned n k i at e ∙ y))
             ∙ (ap (λ (d : Entry). Some (seen_standing (record { start = at; entry = d }))) (sym (passed_same (is_named n) (λ m. refl) e y))
             ∙ sym (ap (option_map seen_standing) (cond-true _ _ _ y)))
         | inr y ↦
-            ap (option_map seen_placed) (cond-false _ _ _ (wants_named n k i at e ∙ y))
+            ap (option_map seen_placed) (cond-false _ _ _ (named_cleaned n k i at e ∙ y))
             ∙ (more
             ∙ (ap (λ (z : ℕ). option_map seen_standing (standing (is_named n) (at + z) (map cleaned es ++ ys))) (sym (cleaned-length e))
             ∙ sym (ap (option_map seen_standing) (cond-false _ _ _ y))))

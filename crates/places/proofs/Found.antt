@@ -6,16 +6,15 @@ use Rattle.codec.specs.declared.name.Name.{Name}
 use Rattle.volume.specs.declared.entry.Status.{Status}
 use Rattle.volume.specs.declared.entry.Status.TheVariants as status
 use Rattle.volume.specs.declared.entry.Entry.{Entry}
-use Rattle.directory.specs.declared.placed.Placed.{Placed}
 use Rattle.directory.specs.Walks.{placed}
+use Rattle.directory.specs.Finds as finds
 use Rattle.edits.specs.Entries.{file_status, empty_status, tentative_status, protected_status, is_empty, is_tentative, is_named, same_name, empty_of}
 use Rattle.edits.specs.Asks.{Place, places}
 use Rattle.edits.specs.Values.{cleaned, value_of}
 use Rattle.places.specs.declared.place.FilePlace.{FilePlace}
 use Rattle.places.specs.declared.place.EntryPlace.{EntryPlace}
-use Rattle.places.specs.declared.find.Wanted.TheVariants.{File, Tentative}
 use Rattle.places.specs.Places.{first, file_at, file_place, entry_at, tentative_place}
-use Rattle.places.specs.Searches.{wants, entry_told, chained_of, passing, first_wanted}
+use Rattle.places.specs.Searches.{entry_told, file_told, chained_of, passing, first_passing}
 use Rattle.places.proofs.Along.{gathered, first-map}
 
 -- a test that no empty passes
@@ -48,23 +47,19 @@ not_tentative status.Empty h = refl
 not_tentative status.Permanent h = refl
 not_tentative status.Protected h = refl
 
-pub wants_named : (n : Name) (k i at : ℕ) (e : Entry) → wants (File n) (placed k i at e) ≡ is_named n (cleaned e)
+pub named_cleaned : (n : Name) (k i at : ℕ) (e : Entry) → finds.is_named n (placed k i at e) ≡ is_named n (cleaned e)
 unfolding same_name
-wants_named n k i at e =
+named_cleaned n k i at e =
     test_cleaned (is_named n) (λ m. refl) e (λ y. and_left (file_status e.status) (same_name n e.name) (no_file e.status y))
 
-pub wants_tentative : (k i at : ℕ) (e : Entry) → wants Tentative (placed k i at e) ≡ is_tentative (cleaned e)
-wants_tentative k i at e = test_cleaned is_tentative (λ m. refl) e (λ y. not_tentative e.status y)
+pub tentative_cleaned : (k i at : ℕ) (e : Entry) → finds.is_tentative (placed k i at e) ≡ is_tentative (cleaned e)
+tentative_cleaned k i at e = test_cleaned is_tentative (λ m. refl) e (λ y. not_tentative e.status y)
 
--- what the code tells of an entry
-abbrev pub file_told : ℕ × Placed → FilePlace
-file_told e = record { entry = entry_told e; date = e.1.date; protected = protected_status e.1.status }
-
-pub file-found : (dir : List ℕ) (n : Name) → option_map file_told (first_wanted (File n) (chained_of dir)) ≡ file_place dir n
-unfolding first_wanted file_place
+pub file-found : (dir : List ℕ) (n : Name) → option_map file_told (first_passing (finds.is_named n) (chained_of dir)) ≡ file_place dir n
+unfolding first_passing file_place
 file-found dir n =
-    first-map file_told (passing (wants (File n)) (chained_of dir))
-    ∙ (ap first (gathered (wants (File n)) (is_named n) (wants_named n) file_told dir told (λ k pl i at e y. same k pl i at e (passed_same (is_named n) (λ m. refl) e y)))
+    first-map file_told (passing (finds.is_named n) (chained_of dir))
+    ∙ (ap first (gathered (finds.is_named n) (is_named n) (named_cleaned n) file_told dir told (λ k pl i at e y. same k pl i at e (passed_same (is_named n) (λ m. refl) e y)))
     ∙ sym (first-map (file_at dir) (places (is_named n) (value_of dir).segments)))
   where
     told : ℕ → ℕ → Place → FilePlace
@@ -78,11 +73,11 @@ file-found dir n =
     same : (k pl i at : ℕ) (e : Entry) → cleaned e ≡ e → file_told (pl, placed k i at e) ≡ told k at (record { segment = pl; index = i; entry = cleaned e })
     same k pl i at e h = ap (λ (d : Entry). told k at (record { segment = pl; index = i; entry = d })) (sym h)
 
-pub tentative_found : (dir : List ℕ) → option_map entry_told (first_wanted Tentative (chained_of dir)) ≡ tentative_place dir
-unfolding first_wanted tentative_place
+pub tentative_found : (dir : List ℕ) → option_map entry_told (first_passing finds.is_tentative (chained_of dir)) ≡ tentative_place dir
+unfolding first_passing tentative_place
 tentative_found dir =
-    first-map entry_told (passing (wants Tentative) (chained_of dir))
-    ∙ (ap first (gathered (wants Tentative) is_tentative wants_tentative entry_told dir told (λ k pl i at e y. same k pl i at e (passed_same is_tentative (λ m. refl) e y)))
+    first-map entry_told (passing finds.is_tentative (chained_of dir))
+    ∙ (ap first (gathered finds.is_tentative is_tentative tentative_cleaned entry_told dir told (λ k pl i at e y. same k pl i at e (passed_same is_tentative (λ m. refl) e y)))
     ∙ sym (first-map (entry_at dir) (places is_tentative (value_of dir).segments)))
   where
     told : ℕ → ℕ → Place → EntryPlace

@@ -1,20 +1,15 @@
 // The empty that an ask gets.
 ghost use Rattle.std.specs.Prelude.{◌≡◌, ◌≤◌, IfSome};
-ghost use Rattle.directory.specs.Walks.{chained, OnWay};
-ghost use Rattle.directory.specs.Sounds.{SoundBytes};
+ghost use Rattle.directory.specs.Entries.{chain_left};
 ghost use Rattle.places.specs.Places.{empty_place};
-ghost use Rattle.places.specs.Searches.{is_empty, chained_of};
 ghost use Rattle.places.specs.Chosen.{first_fit, larger, second_of, with_entry, none_yet, Low, best_after, least_of, giving, given_of, whole_of, half_of, half_or_second, half_from, decided};
 
 use crate::find::entry_told;
 use crate::place::{EmptyPlace, EntryPlace};
-use codec::words::word_at;
-use directory::placed::{Placed, Spot};
-use directory::rules::{first_spot, in_order};
-use directory::sound::{first_block, sound_chain};
-use directory::walk::next_entry;
+use directory::placed::Placed;
+use directory::sound::Sound;
+use directory::walk::ChainEntries;
 use runfile::field::Ask;
-use volume::entry::Status;
 
 // The empties met so far that an ask may get: the first of enough blocks, the largest, and the largest of the others.
 #[derive(Clone, Copy)]
@@ -22,12 +17,6 @@ struct Best {
     first: Option<EntryPlace>,
     largest: Option<EntryPlace>,
     second: Option<EntryPlace>,
-}
-
-fn is_empty(entry: Placed) -> bool
-    ensures { result ≡ is_empty entry }
-{
-    matches!(entry.status, Status::Empty)
 }
 
 // The first of so many blocks, with one empty more.
@@ -67,7 +56,7 @@ fn second_of(
 fn with_entry(best: Best, least: u16, place: usize, entry: Placed) -> Best
     ensures { result ≡ with_entry least best (place, entry) }
 {
-    if !is_empty(entry) {
+    if !entry.status.is_empty() {
         return best;
     }
     let empty = entry_told(place, entry);
@@ -78,10 +67,9 @@ fn with_entry(best: Best, least: u16, place: usize, entry: Placed) -> Best
     }
 }
 
-// The best of the entries from a spot on.
-fn best_from(dir: &[u8], order: &[usize], extra: u16, from: Spot, least: u16) -> Best
-    requires { OnWay extra dir.now order.now from }
-    ensures best { result ≡ best_after least none_yet (chained extra dir.now order.now from) }
+// The best of some entries.
+fn best_of(entries: ChainEntries, least: u16) -> Best
+    ensures best { result ≡ best_after least none_yet (chain_left entries.entry) }
     ensures low { Low result }
 {
     let mut best = Best {
@@ -89,28 +77,10 @@ fn best_from(dir: &[u8], order: &[usize], extra: u16, from: Spot, least: u16) ->
         largest: None,
         second: None,
     };
-    let mut spot = from;
-    while let Some((entry, next)) = next_entry(dir, order, extra, spot) {
-        best = with_entry(best, least, next.place, entry);
-        spot = next;
+    for (place, entry) in entries {
+        best = with_entry(best, least, place, entry);
     }
     best
-}
-
-// The best of a directory.
-fn best_of(dir: &[u8], least: u16) -> Best
-    requires { SoundBytes dir.now }
-    ensures best { result ≡ best_after least none_yet (chained_of dir.now) }
-    ensures low { Low result }
-{
-    let chain = sound_chain(dir);
-    best_from(
-        dir,
-        in_order(&chain),
-        word_at(dir, 6),
-        first_spot(first_block(dir)),
-        least,
-    )
 }
 
 // An empty of which so many blocks are given.
@@ -185,11 +155,12 @@ fn decided(ask: Ask, best: Best) -> Option<EmptyPlace>
     }
 }
 
-// The empty that an ask gets. For our other crates: the caller has found the directory sound.
-pub fn choose(dir: &[u8], ask: Ask) -> Option<EmptyPlace>
-    requires { SoundBytes dir.now }
-    ensures empty { result ≡ empty_place dir.now ask }
+// The empty that an ask gets.
+pub fn choose(dir: Sound, ask: Ask) -> Option<EmptyPlace>
+    ensures empty { result ≡ empty_place dir.entry.bytes.now ask }
     ensures start { IfSome result (λ f. f.entry.start ≤ 200000000) }
 {
-    decided(ask, best_of(dir, least_of(ask)))
+    let chain = dir.chain();
+    let best = best_of(ChainEntries::new(dir.entries(&chain)), least_of(ask));
+    decided(ask, best)
 }

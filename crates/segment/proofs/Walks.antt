@@ -122,7 +122,7 @@ module _ (x : ℕ) (bs : List ℕ) (es : List Entry) (h : segment_entries x bs �
 -- ---- room
 
 pub room_for : (x i : ℕ) → i ≤ capacity_of x → entry_start x i ≤ 1022
-room_for x i h = rw sub-zero at (room_all x i h)
+room_for x i h = room_all x i h
 
 pub room_behind : (x i : ℕ) → i < capacity_of x → entry_start x i + (14 + x) ≤ 1022
 room_behind x i h = omega (arith, room_for x (i + 1) (omega arith), add-mul i 1 (14 + x), one-mul (14 + x))

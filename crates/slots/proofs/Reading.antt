@@ -16,10 +16,6 @@ use Rattle.directory.specs.Walks.{Readable}
 use Rattle.directory.proofs.Walking.{ended, entries_read}
 use Rattle.edits.specs.Values.{cleaned, value_at}
 
--- a segment can hold 72 entries at most
-pub most_slots : (x : ℕ) → capacity_of x ≤ 72
-most_slots x = omega arith
-
 -- no entry begins with the word that ends a segment
 end_none : (x : ℕ) (bs : List ℕ) → word_at bs 0 ≡ 2048 → entry_of x bs ≡ None
 end_none x bs h = ap (λ (w : ℕ). option_map (entry_as x bs) (status_of w)) h
@@ -53,7 +49,7 @@ module _ (x : ℕ) (dir : List ℕ) (k : ℕ) (r : Readable x dir k) where
             let e₀ : Some e ≡ None
             = h ∙ end_none x bs (ended (capacity_of x - i) x bs
             (segment_walked x (segment_at dir k) (entries_at x dir k) read i inside ∙ ap Some (drop_all i (entries_at x dir k) m))) in
-            absurd (let z : ◌≡◌ {A = ℕ} 0 1 = cc in omega arith)
+            absurd (cc)
 
     -- one more entry is read
     pub read_more : (e : Entry) → Some e ≡ entry_of x (drop (entry_start x i) (segment_at dir k))
@@ -78,4 +74,4 @@ module _ (x : ℕ) (dir : List ℕ) (k : ℕ) (r : Readable x dir k) where
         go (inl m) =
             let f : ◌≡◌ {A = Option Entry} None (Some (get_or (entries_at x dir k) i no_entry))
             = h ∙ entry_at x (segment_at dir k) (entries_at x dir k) read i m in
-            absurd (let z : ◌≡◌ {A = ℕ} 0 1 = cc in omega arith)
+            absurd (cc)

@@ -1,7 +1,7 @@
 -- One segment of a directory written to its two blocks.
-use Rattle.std.proofs.Common.{◌≡◌, ℕ, suc, ◌+◌, ◌-◌, ◌*◌, ◌<◌, ◌≤◌, ◌⊎◌, List, [], ◌∷◌, length, get_or, take, drop, set, sym, refl, ap, ◌∙◌, inl, inr, arith, length-set}
+use Rattle.std.proofs.Common.{◌≡◌, ℕ, suc, ◌+◌, ◌-◌, ◌*◌, ◌<◌, ◌≤◌, ◌⊎◌, List, [], ◌∷◌, length, get_or, take, drop, set, sym, refl, ap, ◌∙◌, inl, inr, arith, rules, length-set}
 use Rattle.std.proofs.lemmas.Bool.{cases_lt}
-use Rattle.std.proofs.lemmas.List.{get_or-append_right, get_or-drop, get_or-take, length-append, length-take-le, length-drop, ext_get_or}
+use Rattle.std.proofs.lemmas.List.{places, get_or-drop, get_or-take, ext_get_or}
 use Rattle.device.specs.Blocks.{Block, good, byte}
 use Rattle.device.specs.Tables.{length-table, get_or-table}
 use Rattle.device.proofs.Made.{byte-set_same, byte-set_other}
@@ -15,18 +15,11 @@ use Rattle.store.specs.Stores.{rewritten, RewrittenReads}
 
 length-written : (b : List ℕ) (at : ℕ) (xs : List ℕ) → at + length xs ≤ length b → length (written b at xs) ≡ length b
 unfolding written
-length-written b at xs h =
-    length-append (take at b) _
-    ∙ omega (arith, length-take-le at b (omega arith), length-append xs (drop (at + length xs) b), length-drop (at + length xs) b)
+length-written b at xs h = search (rules, places)
 
 written_past : (b : List ℕ) (at : ℕ) (xs : List ℕ) (a : ℕ) → at + length xs ≤ a → at ≤ length b → get_or (written b at xs) a 0 ≡ get_or b a 0
 unfolding written
-written_past b at xs a h l =
-    let e : at + length xs + (a - at - length xs) ≡ a = omega arith in
-    get_or-append_right (take at b) _ at a 0 (length-take-le at b l) (omega arith)
-    ∙ get_or-append_right xs _ (length xs) (a - at) 0 refl (omega arith)
-    ∙ get_or-drop (at + length xs) b (a - at - length xs) 0
-    ∙ ap (λ (z : ℕ). get_or b z 0) e
+written_past b at xs a h l = search (rules, places)
 
 pub length-directory : (bs : List Block) (s : ℕ) → length (directory bs s) ≡ 1024 * s
 unfolding directory
@@ -62,7 +55,6 @@ module _ (bs : List Block) (s k : ℕ) (bytes : List ℕ) (h : 1 ≤ k) (j : k �
       go (inr p) (inl q) (inl r) =
           let o : ℕ = a - 1024 * (k - 1) in
           let e : 512 * (4 + 2 * k) + o ≡ 3072 + a = omega arith in
-          let f : 512 * (4 + 2 * k) + o ≡ 3072 + a = e in
           byte-set_other (set bs (4 + 2 * k) (good (take 512 bytes))) (suc (4 + 2 * k)) (good (drop 512 bytes)) (3072 + a) (λ z. omega arith)
           ∙ ap (byte (set bs (4 + 2 * k) (good (take 512 bytes)))) (sym e)
           ∙ byte-set_same bs (4 + 2 * k) (good (take 512 bytes)) o (omega arith) (omega arith)

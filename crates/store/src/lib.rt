@@ -13,7 +13,8 @@ use device::fault::DeviceFault;
 use segment::chain::segment_at;
 use volume::transfer::store_segment;
 
-// Writes segment k of the workspace to its two blocks. For our other crates: the caller has found the directory sound, and so its blocks good.
+// Writes segment k of the workspace to its two blocks. For our other crates: the caller has found the directory sound, and
+// so its blocks good.
 pub fn store_from<D: Device>(d: &mut D, dir: &[u8], k: usize) -> Result<(), DeviceFault>
     requires range { (1 ≤ k) × ((k ≤ 31) × (1024 * k ≤ length dir.now)) }
     requires known { AllGood (shows (D.Device.held d.old)) (4 + 2 * k) (6 + 2 * k) }

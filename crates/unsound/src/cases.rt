@@ -5,7 +5,8 @@ use crate::patches::*;
 use crate::volumes::Volume;
 use crate::volumes::Volume::*;
 
-// A volume, the number of blocks of its image, and those of them that are bad.
+// A volume, the number of blocks of its image, and those of them that are bad. It and a case are rows of tables: names of fields
+// would make each four lines longer.
 #[derive(Clone, Copy)]
 pub struct Disk(pub Volume, pub usize, pub &'static [u32]);
 

@@ -3,6 +3,7 @@
 #![tactic(auto)]
 
 use device::image::Image;
+use directory::pending::Pending;
 use level::check::check;
 use level::lookup::{lookup, read_file};
 use std::alloc::AllocError;
@@ -43,14 +44,25 @@ fn print_fault(rt: &HostRuntime, label: &str, fault: FileFault) -> io::Result<()
     println!(rt; "{label}: {number:02} {detail}")
 }
 
+// What the check of a level says.
+fn print_check(
+    rt: &HostRuntime,
+    label: &str,
+    image: &Image,
+    work: &mut [u8],
+    output: Option<Pending>,
+) -> io::Result<()> {
+    match check(image, work, output) {
+        Ok(_) => println!(rt; "{label}: 00"),
+        Err(fault) => print_fault(rt, label, fault),
+    }
+}
+
 fn try_check(rt: &HostRuntime, case: &Case, work: &mut [u8]) -> io::Result<()> {
     let Case(label, Disk(volume, blocks, bad), patches) = *case;
     let mut memory = changed(rt, volume, blocks, patches)?;
     let image = Image::over(memory.as_mut_slice(), bad);
-    match check(&image, work, None) {
-        Ok(_) => println!(rt; "{label}: 00"),
-        Err(fault) => print_fault(rt, label, fault),
-    }
+    print_check(rt, label, &image, work, None)
 }
 
 // The cases share a workspace, so that each finds there what the one before has left.
@@ -68,10 +80,7 @@ fn try_output(rt: &HostRuntime, case: &Opened, work: &mut [u8]) -> io::Result<()
     let output = remembered(memory.as_slice(), extra);
     put_patches(memory.as_mut_slice(), patches);
     let image = Image::over(memory.as_mut_slice(), &[]);
-    match check(&image, work, Some(output)) {
-        Ok(_) => println!(rt; "{label}: 00"),
-        Err(fault) => print_fault(rt, label, fault),
-    }
+    print_check(rt, label, &image, work, Some(output))
 }
 
 fn try_outputs(rt: &HostRuntime, work: &mut [u8]) -> io::Result<()> {

@@ -1,10 +1,11 @@
 // An open output: rule 6 asks that its tentative entry and the next are as they were left, and that no other is tentative. The
 // comment of each case says what the check must tell and why.
 use crate::patches::*;
+use crate::volumes::entry_start;
 use directory::pending::Pending;
 
 // A label; the extra bytes to an entry of the volume of 3 segments in use; the words of an output, opened in segment 2 as its third
-// entry; and the words that are changed while it is open.
+// entry; and the words that are changed while it is open. It is a row of a table, so its parts have no names.
 #[derive(Clone, Copy)]
 pub struct Opened(
     pub &'static str,
@@ -39,13 +40,9 @@ const WIDE: &[Patch] = &[
 
 // The third and the fourth entry of segment 2, of 14 bytes or more each, with zeros behind them.
 pub fn remembered(memory: &[u8], extra: u16) -> Pending {
-    let size = 14 + usize::from(extra);
-    let from = 4096 + 10 + 2 * size;
+    let segment = memory.iter().skip(4096).take(entry_start(4, extra));
     let mut entries = [0; 156];
-    for (entry, byte) in entries
-        .iter_mut()
-        .zip(memory.iter().skip(from).take(2 * size))
-    {
+    for (entry, byte) in entries.iter_mut().zip(segment.skip(entry_start(2, extra))) {
         *entry = *byte;
     }
     Pending {

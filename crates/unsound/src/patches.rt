@@ -1,7 +1,8 @@
 // Words that are changed in a directory.
 use crate::volumes::put_word;
 
-// A word to be put into a segment: the segment, the byte at which the word begins there, and the word.
+// A word to be put into a segment: the segment, the byte at which the word begins there, and the word. It is a row of a table, so
+// its parts have no names.
 #[derive(Clone, Copy)]
 pub struct Patch(pub usize, pub usize, pub u16);
 

@@ -11,9 +11,14 @@ pub enum Volume {
     Full(u16),
 }
 
-// An entry of the directory: its status, the words of its name, its length and its date.
+// An entry of the directory.
 #[derive(Clone, Copy)]
-struct Entry(u16, [u16; 3], u16, u16);
+struct Entry {
+    status: u16,
+    name: [u16; 3],
+    length: u16,
+    date: u16,
+}
 
 const EMPTY: u16 = 512;
 
@@ -27,74 +32,118 @@ const NO_NAME: [u16; 3] = [0, 0, 0];
 
 // From block 14 on: SWAP.SYS of 26 blocks, 4 free blocks, RT11SJ.SYS of 10 blocks.
 const IN_SEGMENT_1: [Entry; 3] = [
-    Entry(PERMANENT, [31_321, 25_600, 31_419], 26, 3117),
-    Entry(EMPTY, NO_NAME, 4, 0),
-    Entry(PERMANENT, [29_631, 50_370, 31_419], 10, 13_311),
+    Entry {
+        status: PERMANENT,
+        name: [31_321, 25_600, 31_419],
+        length: 26,
+        date: 3117,
+    },
+    Entry {
+        status: EMPTY,
+        name: NO_NAME,
+        length: 4,
+        date: 0,
+    },
+    Entry {
+        status: PERMANENT,
+        name: [29_631, 50_370, 31_419],
+        length: 10,
+        date: 13_311,
+    },
 ];
 
 // Then, from block 54 on: DD.SYS of 6 blocks, which is protected, and PIP.SAV of 14 blocks.
 const IN_SEGMENT_3: [Entry; 2] = [
-    Entry(PROTECTED, [6560, 0, 31_419], 6, 3117),
-    Entry(PERMANENT, [25_976, 0, 30_462], 14, 0),
+    Entry {
+        status: PROTECTED,
+        name: [6560, 0, 31_419],
+        length: 6,
+        date: 3117,
+    },
+    Entry {
+        status: PERMANENT,
+        name: [25_976, 0, 30_462],
+        length: 14,
+        date: 0,
+    },
 ];
 
 // Then, from block 74 on: 5 free blocks, STARTS.COM of 1 block, and the last 20 blocks, which are free.
 const IN_SEGMENT_2: [Entry; 3] = [
-    Entry(EMPTY, NO_NAME, 5, 0),
-    Entry(PERMANENT, [31_201, 29_619, 5413], 1, 3117),
-    Entry(EMPTY, NO_NAME, 20, 0),
+    Entry {
+        status: EMPTY,
+        name: NO_NAME,
+        length: 5,
+        date: 0,
+    },
+    Entry {
+        status: PERMANENT,
+        name: [31_201, 29_619, 5413],
+        length: 1,
+        date: 3117,
+    },
+    Entry {
+        status: EMPTY,
+        name: NO_NAME,
+        length: 20,
+        date: 0,
+    },
 ];
 
-// Writes a byte, if there is memory for it.
-fn put_byte(memory: &mut [u8], at: usize, byte: u8) {
-    if let Some(place) = memory.get_mut(at) {
+// Writes words of a segment, low byte first.
+fn put_words(memory: &mut [u8], segment: usize, at: usize, words: &[u16]) {
+    let start = segment
+        .wrapping_mul(1024)
+        .wrapping_add(2048)
+        .wrapping_add(at);
+    let bytes = words.iter().flat_map(|word| word.to_le_bytes());
+    for (place, byte) in memory.iter_mut().skip(start).zip(bytes) {
         *place = byte;
     }
 }
 
-// Writes a word of a segment, low byte first.
 pub fn put_word(memory: &mut [u8], segment: usize, at: usize, word: u16) {
-    let at = segment
-        .wrapping_mul(1024)
-        .wrapping_add(2048)
-        .wrapping_add(at);
-    let [low, high] = word.to_le_bytes();
-    put_byte(memory, at, low);
-    put_byte(memory, at.wrapping_add(1), high);
+    put_words(memory, segment, at, &[word]);
 }
 
-fn put_words(memory: &mut [u8], segment: usize, at: usize, words: &[u16]) {
-    let mut at = at;
-    for word in words {
-        put_word(memory, segment, at, *word);
-        at = at.wrapping_add(2);
-    }
+// Where an entry of a segment is, with so many extra bytes to each.
+pub fn entry_start(index: usize, extra: u16) -> usize {
+    index.wrapping_mul(14 + usize::from(extra)).wrapping_add(10)
 }
 
 fn put_entry(memory: &mut [u8], segment: usize, at: usize, entry: &Entry) {
-    let Entry(status, [first, second, kind], length, date) = *entry;
+    let [first, second, kind] = entry.name;
     put_words(
         memory,
         segment,
         at,
-        &[status, first, second, kind, length, 0, date],
+        &[
+            entry.status,
+            first,
+            second,
+            kind,
+            entry.length,
+            0,
+            entry.date,
+        ],
     );
 }
 
 // Writes the entries of a segment, and the word that ends it.
 fn put_entries(memory: &mut [u8], segment: usize, extra: u16, entries: &[Entry]) {
-    let mut at = 10usize;
-    for entry in entries {
-        put_entry(memory, segment, at, entry);
-        at = at.wrapping_add(14).wrapping_add(usize::from(extra));
+    for (index, entry) in entries.iter().enumerate() {
+        put_entry(memory, segment, entry_start(index, extra), entry);
     }
-    put_word(memory, segment, at, END);
+    put_word(memory, segment, entry_start(entries.len(), extra), END);
 }
 
 // The last byte of each block behind the directory tells the number of the block.
 fn number_blocks(memory: &mut [u8]) {
-    for b in 14..100u8 {
-        put_byte(memory, 512 * b as usize + 511, b);
+    for (b, last) in (0..100)
+        .zip(memory.iter_mut().skip(511).step_by(512))
+        .skip(14)
+    {
+        *last = b;
     }
 }
 
@@ -109,19 +158,27 @@ fn put_system(memory: &mut [u8], extra: u16) {
     number_blocks(memory);
 }
 
+// An empty of so many blocks.
+fn empty_of(length: u16) -> Entry {
+    Entry {
+        status: EMPTY,
+        name: NO_NAME,
+        length,
+        date: 0,
+    }
+}
+
 // Empties of 1 block each from block 8 on, the last with what is left of 100 blocks.
 fn put_full(memory: &mut [u8], extra: u16) {
     put_words(memory, 1, 0, &[1, 0, 1, extra, 8]);
-    let size = 14 + usize::from(extra);
-    let most = 1012 / size;
-    let mut at = 10;
-    for _ in 1..most {
-        put_entry(memory, 1, at, &Entry(EMPTY, NO_NAME, 1, 0));
-        at = size.wrapping_add(at);
+    let most = 1012 / (14 + usize::from(extra));
+    let last = most.saturating_sub(1);
+    for index in 0..last {
+        put_entry(memory, 1, entry_start(index, extra), &empty_of(1));
     }
     let left = 93u16.saturating_sub(most.min(93) as u16);
-    put_entry(memory, 1, at, &Entry(EMPTY, NO_NAME, left, 0));
-    put_word(memory, 1, size.wrapping_add(at), END);
+    put_entry(memory, 1, entry_start(last, extra), &empty_of(left));
+    put_word(memory, 1, entry_start(last + 1, extra), END);
 }
 
 // Writes what stands on the volume, as far as there is memory.

@@ -1,6 +1,5 @@
 -- Segments, written entry by entry.
-use Rattle.std.proofs.Common.{◌≡◌, ℕ, ◌+◌, ◌-◌, ◌*◌, ◌/◌, ◌<◌, ◌≤◌, List, [], ◌++◌, length, get_or, take, replicate, sym, refl, ap, ◌∙◌, add-mul, one-mul, div-mul-le_self, arith}
-use native.Mathlib.Nat.{sub-zero}
+use Rattle.std.proofs.Common.{◌≡◌, ℕ, ◌+◌, ◌*◌, ◌/◌, ◌<◌, ◌≤◌, List, [], ◌++◌, length, get_or, take, replicate, sym, refl, ap, ◌∙◌, add-mul, one-mul, div-mul-le_self, arith}
 use Rattle.std.specs.Array.{AllOfLen}
 use Rattle.std.specs.List.{flat_map}
 use Rattle.std.proofs.lemmas.Grind.{same_number_lists}
@@ -14,15 +13,13 @@ use Rattle.volume.specs.Entries.{empty_of, entry_bytes}
 abbrev pub no_entry : Entry
 no_entry = record { status = Tentative; name = record { first = 0; second = 0; kind = 0 }; length = 0; job = 0; date = 0; extra = [] }
 
--- there is room for n entries, so for one and n - 1
-pub room : (at n size most : ℕ) → 0 < n → at + n * size ≤ most → at + size + (n - 1) * size ≤ most
-room at n size most l h =
-    let e : n ≡ (n - 1) + 1 = omega arith in
-    omega (arith, ap (λ k. k * size) e, add-mul (n - 1) 1 size, one-mul size)
+-- there is room for n entries before the word that ends a segment
+pub room_all : (x n : ℕ) → n ≤ 1012 / (14 + x) → 10 + n * (14 + x) ≤ 1022
+room_all x n h = omega (arith, mul-le n (14 + x) (1012 / (14 + x)) (14 + x) h (omega arith), div-mul-le_self 1012 (14 + x))
 
-pub room_all : (x n : ℕ) → n ≤ 1012 / (14 + x) → 10 + (n - 0) * (14 + x) ≤ 1022
-room_all x n h =
-    rw (sub-zero n) (omega (arith, mul-le n (14 + x) (1012 / (14 + x)) (14 + x) h (omega arith), div-mul-le_self 1012 (14 + x)))
+-- where an entry ends, the next one begins
+pub next_start : (x i : ℕ) → 10 + i * (14 + x) + (14 + x) ≡ 10 + (i + 1) * (14 + x)
+next_start x i = omega (arith, add-mul i 1 (14 + x), one-mul (14 + x))
 
 -- one more entry
 pub entries_more : (x : ℕ) (h : List ℕ) (es : List Entry) (i : ℕ) (d : Entry) → i < length es

@@ -1,37 +1,36 @@
 -- The bytes of a home block, and the sum of its words.
-use Rattle.std.proofs.Common.{◌≡◌, ℕ, zero, suc, ◌+◌, ◌-◌, ◌*◌, ◌/◌, ◌%◌, ◌<◌, ◌≤◌, List, [], ◌∷◌, ◌++◌, length, get_or, take, drop, replicate, codes, refl, ap, ◌∙◌, arith}
-use Rattle.std.specs.Int.{w16, from_le_bytes}
-use Rattle.std.specs.List.{fold, flat_map}
-use Rattle.std.specs.Simd.{first_chunks}
-use Rattle.std.proofs.lemmas.List.{append_assoc, append-nil, take-append-drop, length-append, length-replicate, length-take-le, get_or_append_left, get_or-drop, get_or-take}
-use Rattle.codec.specs.Words.{word_at, written, word_bytes}
+use Rattle.std.proofs.Common.{◌≡◌, ℕ, zero, suc, ◌+◌, ◌-◌, ◌*◌, ◌%◌, ◌≤◌, cond, eqb, List, [], ◌∷◌, ◌++◌, length, get_or, take, replicate, codes, refl, ap, ◌∙◌, arith}
+use Rattle.std.specs.List.{flat_map}
+use Rattle.std.proofs.lemmas.Bool.{cond-true, cond-false, eq-eqb, ne_eqb}
+use Rattle.std.proofs.lemmas.List.{append_assoc, append-nil, length-append, length-replicate, length-take-le, get_or_append_left}
+use Rattle.codec.specs.Words.{written, word_bytes}
 use Rattle.codec.proofs.Written.{into_zeros}
 use Rattle.volume.specs.Home.{words_sum, home_texts, home_front, home}
 
--- one word more in a sum that is kept modulo 65,536
-abbrev pub plus_word : ℕ → List ℕ → ℕ
-plus_word sum bs = (sum + from_le_bytes w16 bs) % 65536
+-- the sum of the first i bytes, each odd one 256 times
+unfoldable pub bytes_sum : List ℕ → ℕ → ℕ
+bytes_sum bs zero = 0
+bytes_sum bs (suc i) = bytes_sum bs i + cond (eqb (i % 2) 0) (get_or bs i 0) (256 * get_or bs i 0)
 
--- a sum from its first word on
-words_first : (bs : List ℕ) (n : ℕ) → words_sum bs (suc n) ≡ word_at bs 0 + words_sum (drop 2 bs) n
-unfolding words_sum
-words_first bs zero = omega arith
-words_first bs (suc n) =
-    let two : 2 * suc n ≡ 2 + 2 * n = omega arith in
-    let low : get_or (drop 2 bs) (2 * n) 0 ≡ get_or bs (2 * suc n) 0 = get_or-drop 2 bs (2 * n) 0 ∙ ap (λ (i : ℕ). get_or bs i 0) (omega arith) in
-    let high : get_or (drop 2 bs) (2 * n + 1) 0 ≡ get_or bs (2 * suc n + 1) 0
-    = get_or-drop 2 bs (2 * n + 1) 0 ∙ ap (λ (i : ℕ). get_or bs i 0) (omega arith) in
-    omega (arith, words_first bs n, low, high)
+pub bytes_even : (bs : List ℕ) (i : ℕ) → i % 2 ≡ 0 → bytes_sum bs (suc i) ≡ bytes_sum bs i + get_or bs i 0
+unfolding bytes_sum
+bytes_even bs i e = ap (λ (z : ℕ). bytes_sum bs i + z) (cond-true _ _ _ (eq-eqb (i % 2) 0 e))
 
--- the words one after another
-pub words_folded : (n : ℕ) (bs : List ℕ) (sum : ℕ) → sum < 65536 → fold plus_word sum (first_chunks 2 n bs) ≡ (sum + words_sum bs n) % 65536
-unfolding words_sum
-words_folded zero bs sum h = omega arith
-words_folded (suc n) bs sum h =
-    let next = plus_word sum (take 2 bs) in
-    let low : get_or (take 2 bs) 0 0 ≡ get_or bs 0 0 = get_or-take 2 bs 0 0 (omega arith) in
-    let high : get_or (take 2 bs) 1 0 ≡ get_or bs 1 0 = get_or-take 2 bs 1 0 (omega arith) in
-    omega (arith, words_folded n (drop 2 bs) next (omega arith), words_first bs n, low, high)
+pub bytes_odd : (bs : List ℕ) (i : ℕ) → (i % 2 ≡ 0 → ⊥) → bytes_sum bs (suc i) ≡ bytes_sum bs i + 256 * get_or bs i 0
+unfolding bytes_sum
+bytes_odd bs i e = ap (λ (z : ℕ). bytes_sum bs i + z) (cond-false _ _ _ (ne_eqb (i % 2) 0 e))
+
+-- two bytes make a word
+pub sums : (bs : List ℕ) (n : ℕ) → bytes_sum bs (2 * n) ≡ words_sum bs n
+unfolding words_sum bytes_sum
+sums bs zero = refl
+sums bs (suc n) =
+    let two : 2 * suc n ≡ suc (suc (2 * n)) = omega arith in
+    let low = bytes_even bs (2 * n) (omega arith) in
+    let high = bytes_odd bs (suc (2 * n)) (λ e. omega arith) in
+    let next : suc (2 * n) ≡ 2 * n + 1 = omega arith in
+    let at : get_or bs (suc (2 * n)) 0 ≡ get_or bs (2 * n + 1) 0 = ap (λ (z : ℕ). get_or bs z 0) next in
+    ap (bytes_sum bs) two ∙ omega (arith, low, high, at, sums bs n)
 
 -- the sum is of the front alone
 words_front : (xs ys : List ℕ) (n : ℕ) → 2 * n ≤ length xs → words_sum (xs ++ ys) n ≡ words_sum xs n
@@ -41,16 +40,6 @@ words_front xs ys (suc n) h =
     let a : get_or (xs ++ ys) (2 * n) 0 ≡ get_or xs (2 * n) 0 = get_or_append_left xs ys 0 (2 * n) (omega arith) in
     let b : get_or (xs ++ ys) (2 * n + 1) 0 ≡ get_or xs (2 * n + 1) 0 = get_or_append_left xs ys 0 (2 * n + 1) (omega arith) in
     omega (arith, a, b, words_front xs ys n (omega arith))
-
--- the sum of the words before the last
-pub checksum_is : (bs : List ℕ) (ws : List (List ℕ)) → length bs ≡ 512 → ws ≡ first_chunks 2 (length (take 510 bs) / 2) (take 510 bs)
-    → fold plus_word 0 ws ≡ words_sum bs 255 % 65536
-checksum_is bs ws h e =
-    let long : length (take 510 bs) ≡ 510 = length-take-le 510 bs (omega arith) in
-    let many : length (take 510 bs) / 2 ≡ 255 = omega arith in
-    let front : words_sum bs 255 ≡ words_sum (take 510 bs) 255
-    = rw take-append-drop at (words_front (take 510 bs) (drop 510 bs) 255 (omega arith)) in
-    rw (e, many) (words_folded 255 (take 510 bs) 0 (omega arith) ∙ omega (arith, front))
 
 -- a block of which the first n bytes are p, and the others zero
 record Begun (p : List ℕ) (n : ℕ) (b : List ℕ) : Type 0 where

@@ -58,14 +58,16 @@ pub struct Entry {
 }
 
 // The status word.
-pub(crate) fn status_word(status: Status) -> u16
-    ensures { result ≡ status_word status }
-{
-    match status {
-        Status::Tentative => 256,
-        Status::Empty => 512,
-        Status::Permanent => 1024,
-        Status::Protected => 33792,
+impl From<Status> for u16 {
+    ghost from_gives = { λ s r. r ≡ status_word s };
+
+    fn from(status: Status) -> u16 {
+        match status {
+            Status::Tentative => 256,
+            Status::Empty => 512,
+            Status::Permanent => 1024,
+            Status::Protected => 33792,
+        }
     }
 }
 
@@ -87,7 +89,7 @@ pub(crate) fn encode_entry(e: &Entry, extra: usize, out: &mut [u8], at: usize)
 {
     let name = e.name;
     let words = [
-        status_word(e.status),
+        u16::from(e.status),
         name.first,
         name.second,
         name.kind,

@@ -11,11 +11,17 @@ const VERSION: u16 = 36_435;
 fn checksum(block: &[u8; 512]) -> u16
     ensures { result ≡ words_sum block.now 255 % 65536 }
 {
-    let (words, _) = block[..510].as_chunks::<2>();
-    words.iter().fold(
-        0,
-        |sum: u16, word| sum.wrapping_add(u16::from_le_bytes(*word)),
-    )
+    // A rule of the project: a loop over the bytes, whose index tells the low byte of a word from the high one.
+    let mut sum: u32 = 0;
+    for i in 0..510 {
+        let byte = block[i] as u32;
+        if i % 2 == 0 {
+            sum += byte;
+        } else {
+            sum += 256 * byte;
+        }
+    }
+    (sum % 65_536) as u16
 }
 
 // The home block of a new volume. Of the old one it keeps the table of bad blocks.

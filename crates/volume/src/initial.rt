@@ -63,7 +63,7 @@ pub fn initialize<D: Device>(d: &mut D, segments: u8) -> Result<(), FileFault>
         return Err(FileFault::OutOfRange);
     }
     let mut old = [0; 512];
-    (*d).read(1, &mut old)?;
+    d.read(1, &mut old)?;
     sweep(d, 6, 2 * total as u32)?;
     lay_out(d, total, blocks, &old)?;
     Ok(())

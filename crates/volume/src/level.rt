@@ -16,5 +16,5 @@ pub fn level_size<D: Device>(d: &D) -> u16
 pub fn segments_fit(total: u16, blocks: u16) -> bool
     ensures { result ≡ segments_fit total blocks }
 {
-    1 <= total && total <= 31 && 7 + 2 * total <= blocks
+    (1..=31).contains(&total) && 7 + 2 * total <= blocks
 }

@@ -33,10 +33,8 @@ pub fn encode_segment(h: &Header, entries: &[Entry], out: &mut [u8])
     let extra = h.extra as usize;
     out.fill(0);
     put_words(out, 0, &[h.total, h.next, h.highest, h.extra, h.start]);
-    let mut at = 10;
-    for e in entries {
-        encode_entry(e, extra, out, at);
-        at += 14 + extra;
+    for (i, e) in entries.iter().enumerate() {
+        encode_entry(e, extra, out, 10 + i * (14 + extra));
     }
-    put_words(out, at, &[END]);
+    put_words(out, 10 + entries.len() * (14 + extra), &[END]);
 }

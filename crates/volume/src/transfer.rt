@@ -21,7 +21,7 @@ pub fn sweep<D: Device>(d: &D, b: u32, n: u32) -> Result<(), DeviceFault>
     Ok(())
 }
 
-// Writes block b, which is known to be good.
+// Writes block b, which is known to be good. One record for its three clauses, and for those below, would take six parameters.
 pub(crate) fn write_known<D: Device>(
     d: &mut D,
     b: u32,

@@ -1,21 +1,27 @@
-use Rattle.std.proofs.Common.{ap, ◌∙◌}
-use Rattle.segment.specs.Chains.{order_of}
+use Rattle.std.proofs.Common.{sym, ap, ◌∙◌}
+use Rattle.directory.specs.Entries.{chain_left}
+use Rattle.directory.proofs.Starts.{low_placed}
 use Rattle.places.specs.Chosen.{none_yet, best_after}
-use Rattle.places.proofs.Searching.{on_whole, whole}
+use Rattle.places.proofs.Keeping.{low_more, best_more, best_none}
 use Rattle.places.proofs.choose.best_of.Goals as goal
 
-pub best_from-requires : goal.best_from-requires
-best_from-requires c =
-    on_whole c.args.dir.now c.word_at.result c.in_order.result.now c.first_spot.result c.word_at.ensures c.first_block.result c.first_spot.ensures c.first_block.ensures
-    (order_of c.sound_chain-chain.result) c.in_order.ensures c.sound_chain-chain.ensures.way
+pub loop-place-init : goal.loop-place-init
+loop-place-init c = (tt, tt, ap (λ e. best_after c.args.least none_yet (chain_left e)) c.into_iter-place-iterator.ensures.into_iter_gives, (tt, tt, tt))
+
+pub loop-place-preserved : goal.loop-place-preserved
+loop-place-preserved c =
+    let e = c.in-Some.entry in
+    let p = c.in-Some.place in (
+      tt,
+      tt,
+      best_more c.args.least c.loop-place.best c.with_entry-best.result p e c.with_entry-best.ensures c.in-Some.ensures.steps
+          ∙ c.loop-place.invariant.2,
+      low_more c.args.least c.loop-place.best c.with_entry-best.result p e c.with_entry-best.ensures c.loop-place.invariant.3 (low_placed c.loop-place.place-iterator _ _ c.in-Some.ensures.steps),
+    )
 
 pub returns : goal.returns
 returns c =
     record {
-      best =
-          c.best_from.ensures.best
-          ∙ ap (best_after c.args.least none_yet)
-          (whole c.args.dir.now c.word_at.result c.in_order.result.now c.first_spot.result c.word_at.ensures c.first_block.result c.first_spot.ensures c.first_block.ensures
-          (c.in_order.ensures ∙ c.sound_chain-chain.ensures.order));
-      low = c.best_from.ensures.low;
+      best = sym (best_none c.args.least c.loop-place.best _ c.in-None.ensures.steps.0) ∙ c.loop-place.invariant.2;
+      low = c.loop-place.invariant.3;
     }

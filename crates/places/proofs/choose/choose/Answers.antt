@@ -7,14 +7,15 @@ use Rattle.places.proofs.Choosing.{best_chosen}
 use Rattle.places.proofs.choose.choose.Goals as goal
 
 pub returns : goal.returns
+unfolding chained_of
 returns c =
     record {
       empty =
           c.decided.ensures
-          ∙ (ap (decided c.args.ask) c.best_of.ensures.best
-          ∙ (ap (λ (n : ℕ). decided c.args.ask (best_after n none_yet (chained_of c.args.dir.now))) c.least_of.ensures
-          ∙ best_chosen c.args.dir.now c.args.ask));
+          ∙ (ap (decided c.args.ask) (c.best_of-best.ensures.best ∙ ap (best_after c.least_of.result none_yet) (c.new.ensures ∙ c.entries.ensures.chain))
+          ∙ (ap (λ (n : ℕ). decided c.args.ask (best_after n none_yet (chained_of c.args.dir.bytes.now))) c.least_of.ensures
+          ∙ best_chosen c.args.dir.bytes.now c.args.ask));
       start =
           subst (λ (o : Option EmptyPlace). IfSome o (λ f. f.entry.start ≤ 200000000)) (sym c.decided.ensures)
-          (low_decided c.args.ask c.best_of.result c.best_of.ensures.low);
+          (low_decided c.args.ask c.best_of-best.result c.best_of-best.ensures.low);
     }

@@ -9,6 +9,6 @@ returns c =
     let e = c.args.e.now in
     record {
       after = written-two c.args.out.now c.args.at (head_bytes e) (take c.args.extra e.extra) _ _
-          (rw c.status_word.ensures at c.put_words.ensures) c.put.ensures refl refl (omega arith);
+          (rw c.from.ensures at c.put_words.ensures) c.put.ensures refl refl (omega arith);
       long = simp length-take (omega arith);
     }
