@@ -53,6 +53,7 @@ impl<'a> Entries<'a> {
     }
 
     // The blocks of the entries together. A loop, since a proof of `sum` sees no bound of each length.
+    #[tactic(auto, using(crate::proofs::Finding::blocks_on, crate::proofs::Finding::blocks_none))]
     pub(crate) fn sum_blocks(self) -> u32
         ensures sum { result ≡ blocks_in (entries_left self.entry) }
         ensures bound { result ≤ 65535 * length (entries_left self.entry) }
@@ -79,6 +80,7 @@ impl<'a> Entries<'a> {
     }
 
     // Whether no two files have one name. No `for`, since each is compared with those that are left behind it.
+    #[tactic(auto, using(crate::proofs::Finding::apart_on, crate::proofs::Finding::apart_off, crate::proofs::Finding::apart_none))]
     pub(crate) fn all_apart(mut self) -> bool
         ensures { result ≡ all_apart (entries_left self.entry) }
     {

@@ -44,6 +44,7 @@ fn has_extra(dir: &[u8], k: usize, extra: u16) -> bool
     word_at(segment_at(dir, k), 6) == extra
 }
 
+#[tactic(auto, using(crate::proofs::Tests::some_mapped))]
 fn is_lawful(dir: &[u8], k: usize, extra: u16) -> bool
     requires { InDirectory dir.now k }
     ensures { result ≡ lawful_at extra dir.now k }
@@ -52,6 +53,7 @@ fn is_lawful(dir: &[u8], k: usize, extra: u16) -> bool
 }
 
 // The blocks of the entries of a segment together.
+#[tactic(auto, using(crate::proofs::Counting::on_whole, crate::proofs::Counting::blocks_one, crate::proofs::Counting::left_few))]
 fn blocks_in(dir: &[u8], k: usize, extra: u16) -> u32
     requires { Readable extra dir.now k }
     ensures sum { result ≡ blocks_of (entries_at extra dir.now k) }
@@ -61,6 +63,7 @@ fn blocks_in(dir: &[u8], k: usize, extra: u16) -> u32
 }
 
 // Whether bytes from a place on are the first of others.
+#[tactic(auto, using(crate::proofs::Tests::same_found))]
 fn same_bytes(bytes: &[u8], at: usize, n: usize, others: &[u8]) -> bool
     requires { (at + n ≤ length bytes.now) × (n ≤ length others.now) }
     ensures { result ≡ same_bytes bytes.now at n others.now }
@@ -124,6 +127,7 @@ impl<'a> Segments<'a> {
     }
 
     // Rules 5 to 9, in their order.
+    #[tactic(auto, unfolding(crate::specs::Rules::broken_along))]
     fn check(self, blocks: u32, output: Option<Pending>) -> Result<(), Rule>
         ensures { told result ≡ broken_along self.entry.extra self.entry.dir.now blocks self.entry.first output self.entry.order.now }
     {
@@ -140,6 +144,7 @@ impl<'a> Segments<'a> {
 impl<'a> Lawful<'a> {
     ghost use Rattle.directory.specs.Entries.{entries_left};
 
+    #[tactic(auto, using(crate::proofs::Counting::on_whole))]
     fn entries(self) -> Entries<'a>
         ensures { let s = self.entry.segments in entries_left result ≡ all_placed s.extra s.dir.now s.order.now s.first }
     {
@@ -176,6 +181,7 @@ impl<'a> Lawful<'a> {
     }
 
     // Rule 7.
+    #[tactic(auto, using(crate::proofs::Contiguity::starts_on, crate::proofs::Contiguity::starts_off, crate::proofs::Contiguity::starts_end))]
     fn contiguous(self, blocks: u32) -> bool
         ensures { let s = self.entry.segments in result ≡ contiguous_from s.extra s.dir.now blocks s.first s.order.now }
     {
@@ -190,6 +196,7 @@ impl<'a> Lawful<'a> {
     }
 
     // Rules 6 (of the tentative entries) to 9, in their order.
+    #[tactic(auto, unfolding(crate::specs::Rules::broken_late))]
     fn check(self, blocks: u32, output: Option<Pending>) -> Result<(), Rule>
         ensures { let s = self.entry.segments in told result ≡ broken_late s.extra s.dir.now blocks s.first output s.order.now }
     {
@@ -217,6 +224,7 @@ fn in_use(highest: u16, total: u16) -> bool
 }
 
 // Rules 3 to 9, in their order. For our other crates: the caller has loaded the directory, and so checked rules 1 and 2.
+#[tactic(auto, using(crate::proofs::Breaking::rule_three, crate::proofs::Breaking::rule_four, crate::proofs::Breaking::rules_rest))]
 pub fn check_rules(dir: &[u8], blocks: u16, output: Option<Pending>) -> Result<(), Rule>
     requires { (1024 ≤ length dir.now) × ((word_at dir.now 0 ≤ 31) × (1024 * word_at dir.now 0 ≤ length dir.now)) }
     ensures { told result ≡ broken_rule dir.now blocks output }

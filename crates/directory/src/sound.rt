@@ -61,6 +61,7 @@ impl<'a> Sound<'a> {
     }
 
     // The file of a name.
+    #[tactic(auto, unfolding(crate::specs::Sounds::file_of))]
     pub fn find_file(self, name: Name) -> Option<Placed>
         ensures file { result ≡ file_of self.entry.bytes.now name }
         ensures start { IfSome result (λ p. p.start ≤ 200000000) }

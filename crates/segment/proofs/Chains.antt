@@ -42,8 +42,8 @@ module _ (h : ℕ) (next : ℕ → ℕ) where
     met_bad l (inl z) = left (chain_bad (h - length ks) k (omega arith) (or_left (eqb k 0) (ltb h k) (eq-eqb k 0 z)))
     met_bad l (inr z) = left (chain_bad (h - length ks) k (omega arith) (or_right (eqb k 0) (ltb h k) (lt-ltb h k z.1)))
 
-    pub met-long : length ks ≡ h → (k ≡ 0 → ⊥) → None ≡ chain_from h h next 1
-    met-long l p = left (chain_long (h - length ks) k (omega arith) p)
+    pub met_long : length ks ≡ h → (k ≡ 0 → ⊥) → None ≡ chain_from h h next 1
+    met_long l p = left (chain_long (h - length ks) k (omega arith) p)
 
     pub met_all : length ks ≡ h → k ≡ 0 → Some ks ≡ chain_from h h next 1
     met_all l e = ap Some (sym (append-nil ks)) ∙ left (chain_end (h - length ks) k (omega arith) e)

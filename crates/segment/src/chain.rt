@@ -22,6 +22,7 @@ pub fn segment_at(dir: &[u8], k: usize) -> &[u8]
 }
 
 // The segment after one, or 0 at the end of the chain.
+#[tactic(auto, unfolding(crate::specs::Chains::next_of))]
 pub fn next_of(dir: &[u8], k: usize) -> usize
     requires { (1 ≤ k) × (1024 * k ≤ length dir.now) }
     ensures { result ≡ next_of dir.now k }
@@ -30,6 +31,7 @@ pub fn next_of(dir: &[u8], k: usize) -> usize
 }
 
 // The chain from segment 1, unless it leaves 1 to `highest`, or ends sooner or later than after so many segments.
+#[tactic(auto, using(crate::proofs::Chains::met_bad, crate::proofs::Chains::met_long, crate::proofs::Chains::met_all, crate::proofs::Chains::met_more))]
 pub fn chain_of(dir: &[u8], highest: usize) -> Option<Chain>
     requires { (highest ≤ 31) × (1024 * highest ≤ length dir.now) }
     ensures order { option_map (λ c. c.items) result ≡ chain_from highest highest (next_of dir.now) 1 }
@@ -51,6 +53,7 @@ pub fn chain_of(dir: &[u8], highest: usize) -> Option<Chain>
 }
 
 // Rule 4 holds exactly when a chain is found.
+#[tactic(auto, using(crate::proofs::Rule4::rule_four))]
 pub fn rule_four()
     ensures { RuleFour }
 {}
