@@ -1,5 +1,5 @@
 -- The number and the value of each fault and each standing.
-use Rattle.std.specs.Prelude.{ℕ}
+use Rattle.std.specs.Prelude.{ℕ, Bool, cond}
 use Rattle.device.specs.declared.fault.DeviceFault.{DeviceFault}
 use Rattle.device.specs.declared.fault.DeviceFault.TheVariants.{PastEnd, BadBlock}
 use Rattle.device.specs.declared.standing.Standing.{Standing}
@@ -19,3 +19,12 @@ fault_block (BadBlock b) = b
 abbrev pub standing_number : Standing → ℕ
 standing_number Stands = 0
 standing_number DoesNotFit = 3
+
+-- the standing of a layer that fits, or does not
+abbrev pub standing_of : Bool → Standing
+standing_of fits = cond fits Stands DoesNotFit
+
+-- a layer that does not fit shows no block
+abbrev pub blocks_by : Standing → ℕ → ℕ
+blocks_by Stands n = n
+blocks_by DoesNotFit n = 0

@@ -42,11 +42,7 @@ impl<D: Device> Floppy<D> {
     pub fn standing(&self) -> Standing
         ensures { result ≡ floppy_standing (length (shows (D.Device.held self.now.below))) }
     {
-        if self.below.size() >= 501 {
-            Standing::Stands
-        } else {
-            Standing::DoesNotFit
-        }
+        Standing::of(self.below.size() >= 501)
     }
 
     // The sectors of block b, put together. Each block below is read at most once.
@@ -91,10 +87,7 @@ impl<D: Device> Device for Floppy<D> {
     ghost fixed = { λ f. D.Device.fixed f.below };
 
     fn size(&self) -> u32 {
-        match self.standing() {
-            Standing::Stands => 494,
-            Standing::DoesNotFit => 0,
-        }
+        self.standing().blocks(494)
     }
 
     fn read(&self, b: u32, into: &mut [u8; 512]) -> Result<(), DeviceFault> {

@@ -32,11 +32,7 @@ impl<D: Device> Levels<D> {
     pub fn standing(&self) -> Standing
         ensures { result ≡ levels_standing self.now.table (length (shows (D.Device.held self.now.below))) }
     {
-        if self.below.size() == self.table.whole().length {
-            Standing::Stands
-        } else {
-            Standing::DoesNotFit
-        }
+        Standing::of(self.below.size() == self.table.whole().length)
     }
 
     // What it is over.
@@ -78,10 +74,7 @@ impl<D: Device> Device for Levels<D> {
     ghost fixed = { λ l. tabled l.table (D.Device.fixed l.below) };
 
     fn size(&self) -> u32 {
-        match self.standing() {
-            Standing::Stands => self.table.deepest().length,
-            Standing::DoesNotFit => 0,
-        }
+        self.standing().blocks(self.table.deepest().length)
     }
 
     fn read(&self, b: u32, into: &mut [u8; 512]) -> Result<(), DeviceFault> {

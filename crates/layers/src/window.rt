@@ -34,11 +34,7 @@ impl<D: Device> Window<D> {
         ensures { result ≡ window_standing self.now.start self.now.length (length (shows (D.Device.held self.now.below))) }
     {
         let size = self.below.size();
-        if self.length <= size && self.start <= size - self.length {
-            Standing::Stands
-        } else {
-            Standing::DoesNotFit
-        }
+        Standing::of(self.length <= size && self.start <= size - self.length)
     }
 
     // What it is over.
@@ -55,10 +51,7 @@ impl<D: Device> Device for Window<D> {
     ghost fixed = { λ w. D.Device.fixed w.below };
 
     fn size(&self) -> u32 {
-        match self.standing() {
-            Standing::Stands => self.length,
-            Standing::DoesNotFit => 0,
-        }
+        self.standing().blocks(self.length)
     }
 
     fn read(&self, b: u32, into: &mut [u8; 512]) -> Result<(), DeviceFault> {

@@ -14,7 +14,7 @@ use volume::fault::FileFault;
 use volume::level::level_size;
 
 // Reads the directory of a level into the workspace, unless the level is not sound, and tells how many segments it has. An open
-// output of the level goes with it.
+// output of the level goes with it. Device, workspace and output stay three parameters: each call is lent its own.
 pub fn check<D: Device>(d: &D, work: &mut [u8], output: Option<Pending>) -> Result<usize, FileFault>
     ensures answer { result ≡ check_answer (length work.old) (shows (D.Device.held d.now)) output }
     ensures bytes { IfOk result (λ s. take (1024 * s) work.new ≡ directory (shows (D.Device.held d.now)) s) }

@@ -37,18 +37,12 @@ pub fn perform<D: Device>(pack: &mut Pack<D>, tag: u8, body: &[u8]) -> Result<()
 pub(crate) fn number_of(answer: Result<(), FieldFault>) -> u8
     ensures { result ≡ result_number answer }
 {
-    match answer {
-        Ok(()) => 0,
-        Err(e) => e.number(),
-    }
+    answer.err().map_or(0, |e| e.number())
 }
 
 // The detail that a line shows for an answer.
 pub(crate) fn detail_of(answer: Result<(), FieldFault>) -> u32
     ensures { result ≡ result_detail answer }
 {
-    match answer {
-        Ok(()) => 0,
-        Err(e) => e.detail(),
-    }
+    answer.err().map_or(0, |e| e.detail())
 }

@@ -44,10 +44,7 @@ impl Ran {
     pub fn number(self) -> u8
         ensures { result ≡ end_number self.end }
     {
-        match self.end {
-            Ok(()) => 0,
-            Err(stop) => stop.number(),
-        }
+        self.end.err().map_or(0, |stop| stop.number())
     }
 }
 

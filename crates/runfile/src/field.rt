@@ -164,7 +164,7 @@ fn after(body: &[u8], at: usize) -> &[u8]
     &body[at..]
 }
 
-// The field with this tag and this body.
+// The field with this tag and this body. Two parameters, since a program may ask of any tag and body, in a run or not.
 pub fn decode(tag: u8, body: &[u8]) -> Result<Field<'_>, FieldFault>
     ensures { order_of result ≡ decoded tag body.now }
 {

@@ -29,6 +29,7 @@ pub fn count_entries(segment: &[u8], extra: u16) -> Option<usize>
     ensures most { IfSome result (λ n. n ≤ capacity_of extra) }
 {
     let most = capacity(extra);
+    // The count is what is told, and so no index.
     for count in 0..=most {
         let at = entry_start(count, extra);
         if word_at(segment, at) == END {

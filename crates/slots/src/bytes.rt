@@ -41,6 +41,7 @@ pub fn entries_at(dir: &[u8], k: usize, extra: u16) -> Slots
 {
     let segment = segment_at(dir, k);
     let mut entries = Slots::new();
+    // A loop: `extend` would answer an error that cannot come.
     for i in 0..capacity(extra) {
         let Some(e) = decode_entry(segment, entry_start(i, extra), extra) else {
             return entries;
