@@ -52,30 +52,30 @@ module _ (bs : List Block) (o : Option Pending) (dir : List ℕ) (l : Loaded bs 
       level_of : List Block → ℕ
       level_of z = Rattle.volume.specs.Levels.level_size z
 
-  pub chain_place : f.segment ≡ get_or (chain_of dir) w.place.segment 0
-  chain_place = ap (λ (z : FilePlace). z.segment) w.is
+  pub chain_place : f.entry.segment ≡ get_or (chain_of dir) w.place.segment 0
+  chain_place = ap (λ (z : FilePlace). z.entry.segment) w.is
 
-  index_is : f.index ≡ w.place.index
-  index_is = ap (λ (z : FilePlace). z.index) w.is
+  index_is : f.entry.index ≡ w.place.index
+  index_is = ap (λ (z : FilePlace). z.entry.index) w.is
 
   pub there : w.place.segment < length (value_of dir).segments
   there = inside bs o dir l a.segment a.index a.entry stands
 
   -- the entry is there
-  pub entry_there : EntryIn dir f.segment f.index
+  pub entry_there : EntryIn dir f.entry.segment f.entry.index
   entry_there =
-      subst (λ (z : ℕ). EntryIn dir z f.index) (sym (number bs o dir l a.segment there f.segment chain_place))
+      subst (λ (z : ℕ). EntryIn dir z f.entry.index) (sym (number bs o dir l a.segment there f.entry.segment chain_place))
       (subst (λ (z : ℕ). EntryIn dir (here a.segment (Rattle.edits.specs.Laid.laid (value_of dir))).number z) (sym index_is)
       (entry_in dir (value_of dir) (outputs o) _ (carries bs o dir l) (lawful bs o dir l) (small_level bs o dir l) a.segment a.index a.entry stands))
 
   -- its segment can be stored
-  pub segment_range : (after : List ℕ) → length after ≡ length dir → (1 ≤ f.segment) × (f.segment ≤ 31) × (1024 * f.segment ≤ length after)
+  pub segment_range : (after : List ℕ) → length after ≡ length dir → (1 ≤ f.entry.segment) × (f.entry.segment ≤ 31) × (1024 * f.entry.segment ≤ length after)
   segment_range after e =
-      let r = in_range bs o dir l a.segment there f.segment chain_place in
+      let r = in_range bs o dir l a.segment there f.entry.segment chain_place in
       (r.0, omega (arith, r.1, few bs o dir l), omega (arith, r.1, e, long bs o dir l))
 
-  pub segment_good : AllGood bs (4 + 2 * f.segment) (6 + 2 * f.segment)
-  segment_good = good_there bs o dir l a.segment there f.segment chain_place
+  pub segment_good : AllGood bs (4 + 2 * f.entry.segment) (6 + 2 * f.entry.segment)
+  segment_good = good_there bs o dir l a.segment there f.entry.segment chain_place
 
   -- DELETE
   pub delete-refused : f.protected ≡ true → delete_change (value_of dir) n ≡ Err fault.Protected
@@ -93,12 +93,12 @@ module _ (bs : List Block) (o : Option Pending) (dir : List ℕ) (l : Loaded bs 
       ∙ ap (with_places (a.segment ∷ []))
       (delete_done _ _ (value_of dir) n (lawful bs o dir l) a w.others w.are (sym (ap (λ (z : FilePlace). z.protected) w.is) ∙ p))
 
-  pub deleted_blocks : (after : List ℕ) → after ≡ with_entries dir f.segment (emptied f.index)
-      → overwritten bs (4 + 2 * f.segment) (halves (segment_at after f.segment))
+  pub deleted_blocks : (after : List ℕ) → after ≡ with_entries dir f.entry.segment (emptied f.entry.index)
+      → overwritten bs (4 + 2 * f.entry.segment) (halves (segment_at after f.entry.segment))
       ≡ changed_blocks bs (record { directory = holding (value_of dir) (altered w.place.segment (emptied w.place.index) (value_of dir).segments); places = w.place.segment ∷ [] })
   deleted_blocks after p =
       stored_one bs o dir l a.segment there (emptied a.index) (suits_emptied bs o dir l a.segment a.index a.entry stands)
-      f.segment after chain_place (p ∙ ap (λ (z : ℕ). with_entries dir f.segment (emptied z)) index_is)
+      f.entry.segment after chain_place (p ∙ ap (λ (z : ℕ). with_entries dir f.entry.segment (emptied z)) index_is)
 
 -- no such file
 pub delete_missing : (dir : List ℕ) (n : Name) → places (is_named n) (value_of dir).segments ≡ [] → delete_change (value_of dir) n ≡ Err fault.NoSuchFile

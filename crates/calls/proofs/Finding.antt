@@ -1,5 +1,5 @@
 -- The file of a name, by its place.
-use Rattle.std.proofs.Common.{◌≡◌, ℕ, List, [], ◌∷◌, Some, None, Option, sym, refl, ◌∙◌, arith}
+use Rattle.std.proofs.Common.{◌≡◌, ℕ, List, [], ◌∷◌, Some, None, Option, sym, refl, ◌∙◌}
 use Rattle.std.specs.Option.{option_map}
 use Rattle.codec.specs.declared.name.Name.{Name}
 use Rattle.edits.specs.Entries.{is_named}

@@ -9,6 +9,7 @@ ghost use Rattle.calls.specs.Plans.{plan_answer, plan_blocks, delete_change};
 use changes::rewrite::empty_at;
 use codec::name::Name;
 use device::Device;
+use directory::sound::Sound;
 use places::find::find_place;
 use store::store_from;
 use volume::fault::FileFault;
@@ -20,11 +21,11 @@ pub(crate) fn delete_in<D: Device>(d: &mut D, dir: &mut [u8], name: Name) -> Res
     ensures after { Became (D.Device.held d.old).stack (plan_blocks (shows (D.Device.held d.old)) (delete_change (value_of dir.old) name)) (D.Device.held d.new).stack }
     ensures fixed { D.Device.fixed d.new ≡ D.Device.fixed d.old }
 {
-    let file = find_place(dir, name).ok_or(FileFault::NoSuchFile)?;
+    let file = find_place(Sound::new(dir), name).ok_or(FileFault::NoSuchFile)?;
     if file.protected {
         return Err(FileFault::Protected);
     }
-    empty_at(dir, file.segment, file.index);
-    store_from(d, dir, file.segment)?;
+    empty_at(dir, file.entry.segment, file.entry.index);
+    store_from(d, dir, file.entry.segment)?;
     Ok(())
 }

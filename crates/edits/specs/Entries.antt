@@ -1,24 +1,11 @@
 -- Entries of a directory, and what is asked of one or counted over a list.
-use Rattle.std.specs.Prelude.{ℕ, ◌+◌, Bool, true, false, cond, not, ◌&&◌, List, [], ◌∷◌, replicate, Some, None, count_by, Option, ◌==◌, nat_lt}
+use Rattle.std.specs.Prelude.{ℕ, ◌+◌, Bool, cond, not, ◌&&◌, List, [], ◌∷◌, replicate, Some, None, count_by, Option, ◌==◌, nat_lt}
 use Rattle.volume.specs.declared.entry.Status.{Status}
-use Rattle.volume.specs.declared.entry.Status.TheVariants.{Tentative, Empty, Permanent, Protected}
+use Rattle.volume.specs.declared.entry.Status.TheVariants.{Tentative}
 use Rattle.codec.specs.declared.name.Name.{Name}
 use Rattle.volume.specs.declared.entry.Entry.{Entry}
-pub use Rattle.volume.specs.Entries.{empty_of}
+pub use Rattle.volume.specs.Entries.{empty_of, empty_status, file_status, tentative_status, protected_status}
 unfoldable pub use Rattle.directory.specs.Walks.{blocks_of}
-pub use Rattle.directory.specs.Finds.{file_status, tentative_status}
-
-abbrev pub empty_status : Status → Bool
-empty_status Tentative = false
-empty_status Empty = true
-empty_status Permanent = false
-empty_status Protected = false
-
-abbrev pub protected_status : Status → Bool
-protected_status Tentative = false
-protected_status Empty = false
-protected_status Permanent = false
-protected_status Protected = true
 
 -- a file's entry is permanent, protected or not
 abbrev pub is_file : Entry → Bool

@@ -1,6 +1,6 @@
 -- Levels inside one another: where the deepest begins, one more mounted, and one left.
-use Rattle.std.proofs.Common.{◌≡◌, ℕ, zero, suc, ◌+◌, ◌-◌, ◌≤◌, List, [], ◌∷◌, ◌++◌, length, take, unwrap_or, Some, Option, refl, ap, ◌∙◌, arith, length-take}
-use Rattle.std.specs.List.{slice_get}
+use Rattle.std.proofs.Common.{◌≡◌, ℕ, zero, suc, ◌+◌, ◌<◌, ◌≤◌, List, [], ◌∷◌, ◌++◌, length, get_or, take, drop, set, refl, arith, length-take}
+use Rattle.std.proofs.lemmas.List.{take-take, take_more_set, length_push}
 use Rattle.std.proofs.lemmas.List.Sums.{sum_by-cons}
 use Rattle.device.specs.declared.level.Level.{Level}
 use Rattle.layers.specs.Nested.{innermost, origin, Nested, LevelsInside}
@@ -13,15 +13,12 @@ pub origin_inside : (around : Level) (ls : List Level) → Nested around ls → 
 origin_inside around [] n = omega arith
 origin_inside around (l ∷ ls) n = omega (arith, n.0, origin_more l ls, origin_inside l ls n.1)
 
--- the deepest level is the last
-innermost_at : (l : Level) (ls : List Level) → slice_get (l ∷ ls) (length ls) ≡ Some (innermost l ls)
-innermost_at l [] = refl
-innermost_at l (m ∷ ls) = innermost_at m ls
-
-pub innermost_last : (around : Level) (ls : List Level) → unwrap_or (slice_get ls (length ls - 1)) around ≡ innermost around ls
-innermost_last around [] = refl
-innermost_last around (l ∷ ls) =
-    ap (λ (k : ℕ). unwrap_or (slice_get (l ∷ ls) k) around) (omega arith) ∙ ap (λ (o : Option Level). unwrap_or o around) (innermost_at l ls)
+-- the deepest level is the record at the depth
+pub innermost_at : (rs : List Level) (depth : ℕ) (d : Level) → depth < length rs → innermost (get_or rs 0 d) (take depth (drop 1 rs)) ≡ get_or rs depth d
+innermost_at [] depth d h = elim h [ ]
+innermost_at (r ∷ rs) zero d h = refl
+innermost_at (r ∷ []) (suc k) d h = absurd (omega arith)
+innermost_at (r ∷ m ∷ rs) (suc k) d h = innermost_at (m ∷ rs) k d (omega arith)
 
 -- a level that is mounted inside the deepest lies inside the levels around it
 pub nested_more : (around : Level) (ls : List Level) (l : Level) → Nested around ls → l.start + l.length ≤ (innermost around ls).length → Nested around (ls ++ l ∷ [])
@@ -33,6 +30,28 @@ nested_fewer around ls zero n = tt
 nested_fewer around [] (suc k) n = tt
 nested_fewer around (l ∷ ls) (suc k) n = (n.0, nested_fewer l ls k n.1)
 
-pub inside_fewer : {whole : Level} {ls ms : List Level} (k : ℕ) → LevelsInside whole ls → ms ≡ take k ls → LevelsInside whole ms
-inside_fewer {whole} {ls} {ms} k i e =
-    rw e record { few = omega (arith, length-take k ls, i.few); nested = nested_fewer whole ls k i.nested; small = i.small }
+-- the records once level l is set after those of the mounted levels, and once one level is left
+pub inside_more : (rs : List Level) (depth : ℕ) (l d : Level) → length rs ≡ 8 → depth < 7 → LevelsInside (get_or rs 0 d) (take depth (drop 1 rs))
+    → l.start + l.length ≤ (get_or rs depth d).length
+    → LevelsInside (get_or (set rs (depth + 1) l) 0 d) (take (depth + 1) (drop 1 (set rs (depth + 1) l)))
+inside_more [] depth l d e h i s = absurd (omega arith)
+inside_more (r ∷ rs) depth l d e h i s =
+    let next : depth + 1 ≡ suc depth = omega arith in
+    let after = take_more_set rs depth l (omega arith) in
+    let last = innermost_at (r ∷ rs) depth d (omega arith) in
+    rw next
+    (rw (← next)
+    record {
+      few = rw after (omega (arith, length_push (take depth rs) l, length-take depth rs));
+      nested = rw after (nested_more r (take depth rs) l i.nested (rw last s));
+      small = i.small;
+    })
+
+pub inside_fewer : (whole : Level) (ls : List Level) (depth n : ℕ) → n ≤ depth → LevelsInside whole (take depth ls) → LevelsInside whole (take n ls)
+inside_fewer whole ls depth n h i =
+    rw (← take-take n depth ls h)
+    record {
+      few = omega (arith, length-take n (take depth ls), i.few);
+      nested = nested_fewer whole (take depth ls) n i.nested;
+      small = i.small;
+    }

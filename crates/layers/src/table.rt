@@ -3,7 +3,6 @@ ghost use Rattle.std.specs.Prelude.{◌≡◌, length};
 ghost use Rattle.layers.specs.Nested.{origin, Nested};
 ghost use Rattle.layers.specs.Mounts.{new_table, deepest_level, mount_answer, mount_table, dismount_answer, dismount_table, fault_number};
 
-use arrayvec::ArrayVec;
 use device::level::Level;
 use std::marker::Model;
 
@@ -27,22 +26,33 @@ impl LevelFault {
     }
 }
 
-// The whole device, and the mounted levels, each inside the level around it, the deepest last.
+// Record 0 is the whole device, and the `depth` records after it are the mounted levels, each inside the level around it.
 #[derive(Drop)]
 pub struct LevelTable {
-    whole: Level,
-    mounted: ArrayVec<Level, 7>,
+    // A rule of the project: eight records, the whole device first.
+    records: [Level; 8],
+    depth: usize,
 }
 
 impl Model for LevelTable {
+    ghost use Rattle.std.specs.Prelude.{◌≡◌, ◌≤◌, length, take, drop, slice_index_or};
     ghost use Rattle.device.specs.Fixed.{Table};
     ghost use Rattle.layers.specs.Nested.{LevelsInside};
+    ghost use Rattle.layers.specs.Mounts.{level};
 
     ghost Value = { Table };
 
-    ghost view = { λ t. record { whole = t.whole; mounted = t.mounted.items } };
+    ghost view = { λ t. record { whole = slice_index_or t.records 0 (level 0 0); mounted = take t.depth (drop 1 t.records) } };
 
-    ghost invariant = { λ t. LevelsInside t.whole t.mounted.items };
+    ghost invariant = { λ t. (length t.records ≡ 8) × (t.depth ≤ 7) × LevelsInside (slice_index_or t.records 0 (level 0 0)) (take t.depth (drop 1 t.records)) };
+}
+
+// Sets a record that is lent.
+fn set_level(level: &mut Level, start: u32, length: u32)
+    ensures { level.new ≡ record { start = start; length = length } }
+{
+    level.start = start;
+    level.length = length;
 }
 
 impl LevelTable {
@@ -51,11 +61,11 @@ impl LevelTable {
         ensures { result ≡ new_table blocks }
     {
         LevelTable {
-            whole: Level {
+            records: [Level {
                 start: 0,
                 length: blocks,
-            },
-            mounted: ArrayVec::new(),
+            }; 8],
+            depth: 0,
         }
     }
 
@@ -63,26 +73,23 @@ impl LevelTable {
     pub(crate) fn depth(&self) -> usize
         ensures { result ≡ length self.now.mounted }
     {
-        self.mounted.len()
+        self.depth
     }
 
     // The record of the whole device.
     pub(crate) fn whole(&self) -> Level
         ensures { result ≡ self.now.whole }
     {
-        self.whole
+        self.records[0]
     }
 
     // The record of the deepest level.
+    #[tactic(auto, using(crate::proofs::Nests::innermost_at))]
     pub(crate) fn deepest(&self) -> Level
         ensures level { result ≡ deepest_level self.now }
         ensures nested { Nested self.now.whole self.now.mounted }
     {
-        self.mounted
-            .as_slice()
-            .last()
-            .copied()
-            .unwrap_or(self.whole)
+        self.records[self.depth]
     }
 
     // The block of the device that is the first of the deepest level.
@@ -90,8 +97,7 @@ impl LevelTable {
         ensures first { result ≡ origin self.now.mounted }
         ensures nested { Nested self.now.whole self.now.mounted }
     {
-        self.mounted
-            .as_slice()
+        self.records[1..=self.depth]
             .iter()
             .map(|level| level.start)
             .sum()
@@ -102,14 +108,16 @@ impl LevelTable {
         ensures answer { result ≡ mount_answer self.old start length }
         ensures after { self.new ≡ mount_table self.old start length }
     {
-        if self.mounted.is_full() {
+        if self.depth >= 7 {
             return Err(LevelFault::TooDeep);
         }
         let around = self.deepest();
         if length > around.length || start > around.length - length {
             return Err(LevelFault::Outside);
         }
-        self.mounted.push(Level { start, length });
+        let depth = self.depth + 1;
+        set_level(&mut self.records[depth], start, length);
+        self.depth = depth;
         Ok(())
     }
 
@@ -119,7 +127,10 @@ impl LevelTable {
         ensures answer { result ≡ dismount_answer self.old }
         ensures after { self.new ≡ dismount_table self.old }
     {
-        self.mounted.pop().ok_or(LevelFault::NotMounted)?;
+        if self.depth == 0 {
+            return Err(LevelFault::NotMounted);
+        }
+        self.depth -= 1;
         Ok(())
     }
 }

@@ -1,5 +1,5 @@
 -- The listing of a directory, to the byte.
-use Rattle.std.specs.Prelude.{ℕ, ◌-◌, Bool, true, false, cond, List, [], ◌∷◌, ◌++◌, length, take, drop, replicate, Some, None, Ok, Err, codes, decimal, filter, Option, Result, ◌==◌, nat_le}
+use Rattle.std.specs.Prelude.{ℕ, ◌-◌, Bool, cond, List, [], ◌∷◌, ◌++◌, length, take, drop, replicate, Some, None, Ok, Err, codes, decimal, filter, Option, Result, ◌==◌, nat_le}
 use Rattle.std.specs.List.{flat_map}
 use Rattle.codec.specs.declared.date.Date.{Date}
 use Rattle.codec.specs.declared.date.UnlawfulDate.{UnlawfulDate}
@@ -7,6 +7,7 @@ use Rattle.codec.specs.declared.name.Name.{Name}
 use Rattle.codec.specs.Dates.{dated_of}
 use Rattle.codec.specs.Digits.{digit_at, two}
 use Rattle.codec.specs.Names.{shown}
+pub use Rattle.volume.specs.Entries.{empty_status}
 use Rattle.volume.specs.declared.entry.Status.{Status}
 use Rattle.volume.specs.declared.entry.Status.TheVariants.{Tentative, Empty, Permanent, Protected}
 use Rattle.directory.specs.declared.placed.Placed.{Placed}
@@ -71,12 +72,6 @@ line_of name long marked date = name ++ (32 ∷ (long ++ (marked ∷ 32 ∷ (dat
 -- the line of a file
 unfoldable pub file_line : Placed → List ℕ
 file_line p = line_of (name_text p.name) (right_in 5 (plain p.length)) (mark p.status) (date_text p.date)
-
-abbrev pub empty_status : Status → Bool
-empty_status Tentative = false
-empty_status Empty = true
-empty_status Permanent = false
-empty_status Protected = false
 
 abbrev pub is_empty : Placed → Bool
 is_empty p = empty_status p.status

@@ -4,7 +4,7 @@ ghost use Rattle.std.specs.Prelude.{◌≡◌, ◌+◌, ◌*◌, ◌≤◌, leng
 use crate::dates::DateWord;
 use crate::paper::{Octal, Text, Words, heading, line};
 use codec::words::word_at;
-use directory::rules::broken_rule;
+use directory::rules::check_rules;
 use segment::chain::{chain_of, segment_at};
 use segment::entry::{date_at, length_at, name_at, status_at};
 use segment::walk::{count_entries, entry_start};
@@ -136,7 +136,7 @@ fn show_chain(rt: &HostRuntime, dir: &[u8]) -> io::Result<()>
     requires { 1024 ≤ length dir.now }
 {
     match chain_of(dir, 1) {
-        Some(chain) => line(rt, "segments in the chain", chain.count),
+        Some(chain) => line(rt, "segments in the chain", chain.len()),
         None => line(rt, "segments in the chain", "it does not end"),
     }
 }
@@ -148,9 +148,12 @@ fn show_rule(rt: &HostRuntime, dir: &[u8], blocks: u16) -> io::Result<()>
     if word_at(dir, 0) > 4 {
         return line(rt, "segments", "more than there are");
     }
-    match broken_rule(dir, blocks, None) {
-        0 => println!(rt; "  first broken rule on {blocks} blocks{:5}none", ""),
-        rule => println!(rt; "  first broken rule on {blocks} blocks{:5}{rule}", ""),
+    match check_rules(dir, blocks, None) {
+        Ok(()) => println!(rt; "  first broken rule on {blocks} blocks{:5}none", ""),
+        Err(rule) => {
+            let number = rule.number();
+            println!(rt; "  first broken rule on {blocks} blocks{:5}{number}", "")
+        }
     }
 }
 

@@ -30,7 +30,7 @@ fn cleaned(e: Entry) -> Entry
 pub(crate) fn is_empty(e: &Entry) -> bool
     ensures { result ≡ is_empty e.now }
 {
-    matches!(e.status, Status::Empty)
+    e.status.is_empty()
 }
 
 // The entries of a segment. For our other crates: the caller has found the segment lawful.

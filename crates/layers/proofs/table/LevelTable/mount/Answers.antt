@@ -1,14 +1,15 @@
-use Rattle.std.proofs.Common.{ap, arith, false-eqb}
-use Rattle.layers.specs.Mounts.{deepest_level}
-use Rattle.layers.proofs.Nests.{nested_more}
+use Rattle.std.proofs.Common.{ap, arith, length-set}
+use Rattle.layers.specs.Mounts.{level, deepest_level}
+use Rattle.layers.proofs.Nests.{innermost_at, inside_more}
 use Rattle.layers.proofs.table.LevelTable.mount.Goals as goal
 
 pub invariant_of-self : goal.invariant_of-self
 invariant_of-self c =
+    let i = c.self.invariant in
+    let rs = c.self.inside.records in
+    let first = ap (λ l. l.start) c.set_level.ensures in
+    let long = ap (λ l. l.length) c.set_level.ensures in
     let size = ap (λ l. l.length) c.deepest-around.ensures.level in
     let same = ap (λ t. (deepest_level t).length) c.self.view_is in
-    record {
-      few = omega (arith, c.push.ensures.len, c.self.invariant.few, false-eqb _ 7 c.if-is_full.ensures.value);
-      nested = rw c.push.ensures.items (nested_more _ _ _ c.self.invariant.nested (omega arith));
-      small = c.self.invariant.small;
-    }
+    let last = ap (λ l. l.length) (innermost_at rs c.self.inside.depth (level 0 0) (omega arith)) in
+    (rw length-set i.0, omega arith, inside_more rs c.self.inside.depth _ _ i.0 (omega arith) i.2 (omega arith))
