@@ -50,3 +50,7 @@ low_placed e p ps q =
       placed_from e.entries.extra e.entries.dir.now e.entries.at.place e.entries.at.index e.entries.at.start (drop e.entries.at.place e.entries.order.now) p ps q,
       e.entries.way.bound,
     )
+
+pub low_placed_first : (e f : ChainEntries) (r : Option (ℕ × Placed)) → YieldsFirst chain_left e r f → IfSome r (λ p. p.1.start ≤ 200000000)
+low_placed_first e f (Some p) q = low_placed e p (chain_left f) q
+low_placed_first e f None q = tt
