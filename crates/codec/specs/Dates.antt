@@ -1,5 +1,5 @@
 -- Date words.
-use Rattle.std.specs.Prelude.{◌≡◌, ℕ, ◌+◌, ◌*◌, ◌/◌, ◌%◌, Bool, cond, ◌&&◌, Some, None, Ok, Err, Option, Result, ◌==◌, nat_le}
+use Rattle.std.specs.Prelude.{◌≡◌, ℕ, ◌+◌, ◌*◌, ◌/◌, ◌%◌, Bool, cond, ◌&&◌, List, codes, Some, None, Ok, Err, Option, Result, ◌==◌, nat_le}
 use Rattle.codec.specs.declared.date.Date.{Date}
 use Rattle.codec.specs.declared.date.UnlawfulDate.{UnlawfulDate}
 
@@ -18,3 +18,20 @@ dated_of w = cond (w == 0) (Ok None) (cond (is_day (date_in w)) (Ok (Some (date_
 -- a worked row
 pub record DateRows : Type 0 where
   pub row_13311 : dated_of 13311 ≡ Ok (Some (record { day = 31; month = 12; year = 2003 }))
+
+-- the first three letters of a month
+abbrev pub month_name : ℕ → List ℕ
+month_name m =
+    cond (m == 1) (codes "Jan")
+    (cond (m == 2) (codes "Feb")
+    (cond (m == 3) (codes "Mar")
+    (cond (m == 4) (codes "Apr")
+    (cond (m == 5) (codes "May")
+    (cond (m == 6) (codes "Jun")
+    (cond (m == 7) (codes "Jul")
+    (cond (m == 8) (codes "Aug")
+    (cond (m == 9) (codes "Sep")
+    (cond (m == 10) (codes "Oct")
+    (cond (m == 11) (codes "Nov")
+    (cond (m == 12) (codes "Dec")
+    (codes "???"))))))))))))

@@ -1,6 +1,6 @@
 // Date words: the year from 1972 in two parts, the month and the day.
 ghost use Rattle.std.specs.Prelude.{◌≡◌};
-ghost use Rattle.codec.specs.Dates.{date_in, is_day, dated_of, DateRows};
+ghost use Rattle.codec.specs.Dates.{date_in, is_day, dated_of, month_name, DateRows};
 
 // A day of a month of a year.
 #[derive(Clone, Copy, Debug, PartialEq, Eq)]
@@ -47,6 +47,27 @@ fn is_day(date: Date) -> bool
     ensures { result ≡ is_day date }
 {
     (1..=12).contains(&date.month) && (1..=31).contains(&date.day)
+}
+
+// The first three letters of a month, or question marks where there is no such month.
+pub fn month_name(month: u8) -> [u8; 3]
+    ensures { result ≡ month_name month }
+{
+    match month {
+        1 => *b"Jan",
+        2 => *b"Feb",
+        3 => *b"Mar",
+        4 => *b"Apr",
+        5 => *b"May",
+        6 => *b"Jun",
+        7 => *b"Jul",
+        8 => *b"Aug",
+        9 => *b"Sep",
+        10 => *b"Oct",
+        11 => *b"Nov",
+        12 => *b"Dec",
+        _ => *b"???",
+    }
 }
 
 // A row of the table of dates.

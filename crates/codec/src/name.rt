@@ -16,7 +16,7 @@ pub struct UnlawfulName;
 
 impl Name {
     // The words of six characters of name and three of type: capital letters, digits and $, with blanks only at the end of
-    // either part, and a name part that is not all blank.
+    // either part, and a name part that is not all blank. No `TryFrom`, which would not say that the bytes are characters.
     #[tactic(auto, using(crate::proofs::Parts::name_lawful, crate::proofs::Parts::name_unlawful))]
     pub fn from_bytes(bytes: &[u8; 9]) -> Result<Name, UnlawfulName>
         ensures { result ≡ name_of bytes.now }

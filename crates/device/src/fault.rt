@@ -9,7 +9,7 @@ pub enum DeviceFault {
 }
 
 impl DeviceFault {
-    // 1 for a block past the end, 2 for a bad one.
+    // 1 for a block past the end, 2 for a bad one. A method and no `From`, since every answer has it by this name.
     pub fn number(self) -> u8
         ensures { result ≡ fault_number self }
     {

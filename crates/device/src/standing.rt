@@ -31,6 +31,7 @@ impl Standing {
     }
 
     // 0 for a layer that stands, 3 for one that does not fit what is below.
+    // A method and no `From`, since every answer has it by this name.
     pub fn number(self) -> u8
         ensures { result ≡ standing_number self }
     {

@@ -16,6 +16,7 @@ pub enum LevelFault {
 
 impl LevelFault {
     // 13 for the eighth container and for one too few, 12 for a start or length outside the level around.
+    // A method and no `From`, since every answer has it by this name.
     pub fn number(self) -> u8
         ensures { result ≡ fault_number self }
     {

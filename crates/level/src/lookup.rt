@@ -11,7 +11,7 @@ use directory::pending::Pending;
 use directory::sound::Sound;
 use volume::fault::FileFault;
 
-// LOOKUP: where the file of a name starts, how many blocks it has, and its date word.
+// LOOKUP: where the file of a name starts, how many blocks it has, and its date word. A rule of the project: a tuple of three.
 pub fn lookup<D: Device>(
     d: &D,
     work: &mut [u8],

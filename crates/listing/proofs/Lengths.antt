@@ -4,10 +4,10 @@ use Rattle.std.proofs.lemmas.List.{length-append}
 use Rattle.codec.specs.declared.date.Date.{Date}
 use Rattle.codec.specs.declared.date.UnlawfulDate.{UnlawfulDate}
 use Rattle.codec.specs.declared.name.Name.{Name}
-use Rattle.codec.specs.Dates.{dated_of}
+use Rattle.codec.specs.Dates.{dated_of, month_name}
 use Rattle.codec.specs.Names.{shown}
 use Rattle.directory.specs.declared.placed.Placed.{Placed}
-use Rattle.listing.specs.Listings.{month_name, day_text, dating_text, date_text, right_in, plain, name_text, mark, line_of, file_line}
+use Rattle.listing.specs.Listings.{day_text, dating_text, date_text, right_in, plain, name_text, mark, line_of, file_line}
 use Rattle.listing.proofs.Spelled.{in_columns}
 
 length_either : (t : Bool) (x y : List ℕ) → length (cond t x y) ≡ cond t (length x) (length y)

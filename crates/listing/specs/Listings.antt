@@ -1,10 +1,10 @@
 -- The listing of a directory, to the byte.
-use Rattle.std.specs.Prelude.{ℕ, ◌-◌, Bool, cond, List, [], ◌∷◌, ◌++◌, length, take, drop, replicate, Some, None, Ok, Err, codes, decimal, filter, Option, Result, ◌==◌, nat_le}
+use Rattle.std.specs.Prelude.{ℕ, ◌-◌, Bool, cond, List, [], ◌∷◌, ◌++◌, length, take, drop, replicate, Some, None, Ok, Err, codes, decimal, filter, Option, Result, nat_le}
 use Rattle.std.specs.List.{flat_map}
 use Rattle.codec.specs.declared.date.Date.{Date}
 use Rattle.codec.specs.declared.date.UnlawfulDate.{UnlawfulDate}
 use Rattle.codec.specs.declared.name.Name.{Name}
-use Rattle.codec.specs.Dates.{dated_of}
+use Rattle.codec.specs.Dates.{dated_of, month_name}
 use Rattle.codec.specs.Digits.{digit_at, two}
 use Rattle.codec.specs.Names.{shown}
 pub use Rattle.volume.specs.Entries.{empty_status}
@@ -23,22 +23,6 @@ plain n = decimal n
 -- right-aligned in so many columns, with blanks in front
 abbrev pub right_in : ℕ → List ℕ → List ℕ
 right_in k cs = replicate (k - length cs) 32 ++ cs
-
-abbrev pub month_name : ℕ → List ℕ
-month_name m =
-    cond (m == 1) (codes "Jan")
-    (cond (m == 2) (codes "Feb")
-    (cond (m == 3) (codes "Mar")
-    (cond (m == 4) (codes "Apr")
-    (cond (m == 5) (codes "May")
-    (cond (m == 6) (codes "Jun")
-    (cond (m == 7) (codes "Jul")
-    (cond (m == 8) (codes "Aug")
-    (cond (m == 9) (codes "Sep")
-    (cond (m == 10) (codes "Oct")
-    (cond (m == 11) (codes "Nov")
-    (cond (m == 12) (codes "Dec")
-    (codes "???"))))))))))))
 
 -- a day as dd-Mmm-yyyy
 unfoldable pub day_text : Date → List ℕ

@@ -1,35 +1,14 @@
 // The line of a file.
 ghost use Rattle.std.specs.Prelude.{◌≡◌};
-ghost use Rattle.listing.specs.Listings.{month_name, day_text, date_text, mark, name_text, file_line};
+ghost use Rattle.listing.specs.Listings.{day_text, date_text, mark, name_text, file_line};
 
 use crate::digits::right_in_five;
-use codec::date::{Date, dated};
+use codec::date::{Date, dated, month_name};
 use codec::digits::digit;
 use codec::name::Name;
 use codec::words::put;
 use directory::placed::Placed;
 use volume::entry::Status;
-
-// The first three letters of a month.
-fn month_name(month: u8) -> [u8; 3]
-    ensures { result ≡ month_name month }
-{
-    match month {
-        1 => *b"Jan",
-        2 => *b"Feb",
-        3 => *b"Mar",
-        4 => *b"Apr",
-        5 => *b"May",
-        6 => *b"Jun",
-        7 => *b"Jul",
-        8 => *b"Aug",
-        9 => *b"Sep",
-        10 => *b"Oct",
-        11 => *b"Nov",
-        12 => *b"Dec",
-        _ => *b"???",
-    }
-}
 
 // A day as dd-Mmm-yyyy.
 fn day_text(date: Date) -> [u8; 11]

@@ -1,6 +1,6 @@
 // Date words.
-use crate::paper::{Octal, heading};
-use codec::date::{Date, UnlawfulDate, dated};
+use crate::paper::{Octal, Text, heading};
+use codec::date::{Date, UnlawfulDate, dated, month_name};
 use std::{fmt, io};
 
 // What a date word says.
@@ -19,27 +19,10 @@ impl fmt::Display for DateWord {
 
 fn write_day<W: fmt::Write>(date: Date, f: &mut fmt::Formatter<W>) -> fmt::Result {
     let day = date.day;
-    let month = month_name(date.month);
+    let name = month_name(date.month);
+    let month = Text(&name);
     let year = date.year;
     write!(f, "{day:02}-{month}-{year}")
-}
-
-fn month_name(month: u8) -> &'static str {
-    match month {
-        1 => "Jan",
-        2 => "Feb",
-        3 => "Mar",
-        4 => "Apr",
-        5 => "May",
-        6 => "Jun",
-        7 => "Jul",
-        8 => "Aug",
-        9 => "Sep",
-        10 => "Oct",
-        11 => "Nov",
-        12 => "Dec",
-        _ => "???",
-    }
 }
 
 fn read(rt: &HostRuntime, number: u16, note: &str) -> io::Result<()> {

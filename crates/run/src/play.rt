@@ -21,7 +21,7 @@ pub enum Stop {
 }
 
 impl Stop {
-    // 17 or 18.
+    // 17 or 18. A method and no `From`, since every answer has it by this name.
     pub fn number(self) -> u8
         ensures { result ≡ stop_number self }
     {

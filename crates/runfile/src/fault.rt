@@ -14,6 +14,7 @@ pub enum FieldFault {
 
 impl FieldFault {
     // The number of the refusal: 16 where the field itself is at fault, else the file call's.
+    // A method and no `From`, since every answer has it by this name.
     pub fn number(self) -> u8
         ensures { result ≡ field_number self }
     {

@@ -46,7 +46,7 @@ impl Status {
     }
 }
 
-// An entry, with zeros behind its extra bytes.
+// An entry, with zeros behind its extra bytes. How many there are stands once for all entries, in the header.
 #[derive(Clone, Copy, Default)]
 pub struct Entry {
     pub status: Status,

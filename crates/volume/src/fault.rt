@@ -28,7 +28,7 @@ pub enum FileFault {
 }
 
 impl FileFault {
-    // The number that is returned for it.
+    // The number that is returned for it. A method and no `From`, since every answer has it by this name.
     pub fn number(self) -> u8
         ensures { result ≡ file_number self }
     {

@@ -17,7 +17,7 @@ pub enum Rule {
 }
 
 impl Rule {
-    // The number that is told where the rule is broken.
+    // The number that is told where the rule is broken. A method and no `From`, since every answer has it by this name.
     pub fn number(self) -> u8
         ensures { result ≡ rule_number self }
     {
