@@ -1,4 +1,4 @@
-// DELETE, RENAME, PROTECT and UNPROTECT on a directory in the workspace and its level.
+// DELETE on a directory in the workspace and its level.
 ghost use Rattle.std.specs.Prelude.{◌≡◌, None};
 ghost use Rattle.device.specs.Held.{shows};
 ghost use Rattle.device.specs.Stacks.{Became};
@@ -14,7 +14,7 @@ use places::find::find_place;
 use store::store_from;
 use volume::fault::FileFault;
 
-// The file of a name becomes empty. For our other crates, as those below: the caller has loaded the directory.
+// The file of a name becomes empty. For our other crates: the caller has loaded the directory.
 pub(crate) fn delete_in<D: Device>(d: &mut D, dir: &mut [u8], name: Name) -> Result<(), FileFault>
     requires { Loaded (shows (D.Device.held d.old)) None dir.old }
     ensures answer { result ≡ plan_answer (delete_change (value_of dir.old) name) }

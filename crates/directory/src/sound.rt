@@ -1,4 +1,4 @@
-// Files of a sound directory.
+// A sound directory: its chain, its entries and its files.
 ghost use Rattle.std.specs.Prelude.{◌≡◌, ◌+◌, ◌*◌, ◌≤◌, length, IfSome};
 ghost use Rattle.codec.specs.Words.{word_at};
 ghost use Rattle.segment.specs.Directories.{chain_of};

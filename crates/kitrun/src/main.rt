@@ -3,7 +3,7 @@
 
 use device::image::Image;
 use files::pack::Pack;
-use run::play::run;
+use run::play::{Stop, run};
 use std::io;
 use std::io::Read;
 
@@ -30,9 +30,9 @@ fn main(rt: HostRuntime) -> io::Result<()> {
     let heap = rt.alloc();
     let mut input = Vec::new(heap);
     // One byte more than a run may have, so that a longer one shows.
-    rt.stdin().take(8193).read_to_end(&mut input)?;
+    rt.stdin().take(MOST as u64 + 1).read_to_end(&mut input)?;
     if input.len() > MOST {
-        return rt.println("18");
+        return print_number(&rt, Stop::RunTooLong.number());
     }
     let mut memory = vec![in heap; 0u8; IMAGE]?;
     let mut work = vec![in heap; 0u8; WORKSPACE]?;

@@ -27,7 +27,7 @@ pub(crate) fn read_part<D: Device>(
         .map_err(|_| DeviceFault::BadBlock(b))
 }
 
-// Writes it.
+// Writes it. Not one function with the read: that takes what is below to look at, and this to change.
 pub(crate) fn write_part<D: Device>(
     below: &mut D,
     first: u32,

@@ -32,7 +32,7 @@ fn read_blocks<D: Device>(d: &D, from: u32, to: u32, work: &mut [u8]) -> Result<
     ensures answer { result ≡ readable (shows (D.Device.held d.now)) (6 + from) (to - from) }
     ensures bytes { OnOk result (Holds (shows (D.Device.held d.now)) (512 * to) work.new) }
 {
-    // By numbers: a block's is its place in the workspace too.
+    // No plainer by `as_chunks_mut`: a block's number is its place in the workspace too.
     for i in from..to {
         read_to(d, 6 + i, work, 512 * i as usize)?;
     }

@@ -32,7 +32,7 @@ fn day_text(date: Date) -> [u8; 11]
     ]
 }
 
-// What a date word shows as: no date is eleven blanks, and an unlawful one question marks.
+// What a date word shows as: no date is eleven blanks, and an unlawful one question marks. A rule of the project: by `let .. else`.
 #[tactic(auto, unfolding(crate::specs::Listings::date_text))]
 fn date_text(word: u16) -> [u8; 11]
     ensures { result ≡ date_text word }

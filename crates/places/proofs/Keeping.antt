@@ -1,5 +1,5 @@
 -- One entry more among the empties that are kept, and how low they start.
-use Rattle.std.proofs.Common.{◌≡◌, ℕ, ◌<◌, ◌≤◌, eqb, ltb, leb, List, [], ◌∷◌, IfSome, Some, None, Option, sym, ap, ◌∙◌, subst}
+use Rattle.std.proofs.Common.{◌≡◌, ℕ, ◌<◌, ◌≤◌, eqb, ltb, leb, List, [], ◌∷◌, IfSome, Some, None, Option, sym, refl, ap, ◌∙◌, subst}
 use Rattle.std.proofs.lemmas.Bool.{lt-ltb, cond-true, cond_both}
 use Rattle.runfile.specs.declared.field.Ask.{Ask}
 use Rattle.runfile.specs.declared.field.Ask.TheVariants.{Whole, Half, Exact}
@@ -8,7 +8,7 @@ use Rattle.places.specs.declared.place.EntryPlace.{EntryPlace}
 use Rattle.places.specs.declared.place.EmptyPlace.{EmptyPlace}
 use Rattle.places.specs.declared.choose.Best.{Best}
 use Rattle.places.specs.Searches.{is_empty, entry_told}
-use Rattle.places.specs.Chosen.{first_fit, larger, second_of, with_empty, with_entry, Low, best_after, giving, given_of, whole_of, half_of, half_or_second, half_from, decided}
+use Rattle.places.specs.Chosen.{first_fit, larger, second_of, with_empty, with_entry, none_yet, Low, best_after, giving, given_of, whole_of, half_of, half_or_second, half_from, decided}
 
 pub best_more : (least : ℕ) (b a : Best) (p : ℕ) (e : Placed) {l r : List (ℕ × Placed)} → a ≡ with_entry least b (p, e) → l ≡ (p, e) ∷ r
     → best_after least a r ≡ best_after least b l
@@ -79,3 +79,10 @@ pub low_decided : (ask : Ask) (b : Best) → Low b → LowEmpty (decided ask b)
 low_decided Whole b h = low_whole b.largest h.1
 low_decided Half b h = low_half b.largest b.second h.1 h.2
 low_decided (Exact n) b h = low_given n b.first h.0
+
+-- nothing is kept at first
+pub none_is : (b : Best) → (b.first ≡ None) × ((b.largest ≡ None) × (b.second ≡ None)) → b ≡ none_yet
+none_is b h = go b.first b.largest b.second h.0 h.1.0 h.1.1
+  where
+    go : (x y z : Option EntryPlace) → x ≡ None → y ≡ None → z ≡ None → ◌≡◌ {A = Best} (record { first = x; largest = y; second = z }) none_yet
+    go x y z p q r = rw (p, q, r) refl

@@ -12,7 +12,7 @@ use directory::walk::ChainEntries;
 use runfile::field::Ask;
 
 // The empties met so far that an ask may get: the first of enough blocks, the largest, and the largest of the others.
-#[derive(Clone, Copy)]
+#[derive(Clone, Copy, Default)]
 struct Best {
     first: Option<EntryPlace>,
     largest: Option<EntryPlace>,
@@ -72,11 +72,7 @@ fn best_of(entries: ChainEntries, least: u16) -> Best
     ensures best { result ≡ best_after least none_yet (chain_left entries.entry) }
     ensures low { Low result }
 {
-    let mut best = Best {
-        first: None,
-        largest: None,
-        second: None,
-    };
+    let mut best = Best::default();
     for (place, entry) in entries {
         best = with_entry(best, least, place, entry);
     }

@@ -10,7 +10,7 @@ use directory::placed::Placed;
 use directory::sound::Sound;
 use directory::walk::ChainEntries;
 
-// An entry with its segment's place in the chain.
+// An entry with its segment's place in the chain. Two parameters and no `From`, which would take a pair.
 pub(crate) fn entry_told(place: usize, entry: Placed) -> EntryPlace
     ensures { result ≡ entry_told (place, entry) }
 {

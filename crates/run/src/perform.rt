@@ -16,7 +16,7 @@ pub fn is_known(tag: u8) -> bool
     tag == 1
 }
 
-// Does what a field with this tag and this body says.
+// Does what a field with this tag and this body says. The last arm is for the fields that are not built yet.
 pub fn perform<D: Device>(pack: &mut Pack<D>, tag: u8, body: &[u8]) -> Result<(), FieldFault>
     ensures answer { result ≡ (performed (state_of D.Device.held pack.old) tag body.now).answer }
     ensures state { state_of D.Device.held pack.new ≡ (performed (state_of D.Device.held pack.old) tag body.now).after }

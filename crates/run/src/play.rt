@@ -88,6 +88,7 @@ fn run_fields<D: Device>(pack: &mut Pack<D>, run: &[u8], report: &mut [u8]) -> R
     ensures fixed { D.Device.fixed pack.new.levels.below ≡ D.Device.fixed pack.old.levels.below }
     ensures fits { 20 * result.lines ≤ length report.new }
 {
+    // Counted by hand, since the count is told when the loop has ended.
     let mut lines = 0;
     for field in Fields::of(run) {
         if report.len() - 20 * lines < 20 {

@@ -11,7 +11,7 @@ use crate::fault::FieldFault;
 use codec::words::word_at;
 
 // The run ended inside a field.
-#[derive(Clone, Copy)]
+#[derive(Clone, Copy, Debug, PartialEq, Eq)]
 pub struct CutShort;
 
 // One field as it stands in the run, and what follows it.
@@ -29,7 +29,7 @@ pub fn next_field(run: &[u8]) -> Result<Option<Part<'_>>, CutShort>
     match run {
         [] => Ok(None),
         [tag, low, high, rest @ ..] => {
-            let size = usize::from(*low) + 256 * usize::from(*high);
+            let size = usize::from(u16::from_le_bytes([*low, *high]));
             if size > rest.len() {
                 return Err(CutShort);
             }
@@ -67,17 +67,9 @@ impl<'a> Iterator for Fields<'a> {
 
     #[tactic(auto, using(crate::proofs::Items::items_field, crate::proofs::Items::items_short, crate::proofs::Items::items_none))]
     fn next(&mut self) -> Option<Result<Part<'a>, CutShort>> {
-        match next_field(self.rest) {
-            Ok(None) => None,
-            Ok(Some(part)) => {
-                self.rest = part.rest;
-                Some(Ok(part))
-            }
-            Err(CutShort) => {
-                self.rest = &[];
-                Some(Err(CutShort))
-            }
-        }
+        let field = next_field(self.rest).transpose()?;
+        self.rest = field.map_or(&[], |part| part.rest);
+        Some(field)
     }
 }
 

@@ -1,12 +1,20 @@
-use Rattle.std.proofs.Common.{sym, ap, ◌∙◌}
+use Rattle.std.proofs.Common.{sym, ap, ◌∙◌, subst}
+use Rattle.directory.specs.declared.walk.ChainEntries.{ChainEntries}
 use Rattle.directory.specs.Entries.{chain_left}
 use Rattle.directory.proofs.Starts.{low_placed}
-use Rattle.places.specs.Chosen.{none_yet, best_after}
-use Rattle.places.proofs.Keeping.{low_more, best_more, best_none}
+use Rattle.places.specs.Chosen.{none_yet, Low, best_after}
+use Rattle.places.proofs.Keeping.{low_more, best_more, best_none, none_is}
 use Rattle.places.proofs.choose.best_of.Goals as goal
 
 pub loop-place-init : goal.loop-place-init
-loop-place-init c = (tt, tt, ap (λ e. best_after c.args.least none_yet (chain_left e)) c.into_iter-place-iterator.ensures.into_iter_gives, (tt, tt, tt))
+loop-place-init c =
+    let e = none_is c.default-best.result c.default-best.ensures in (
+      tt,
+      tt,
+      ap (λ b. best_after c.args.least b (chain_left c.into_iter-place-iterator.result)) e
+          ∙ ap (λ (t : ChainEntries). best_after c.args.least none_yet (chain_left t)) c.into_iter-place-iterator.ensures.into_iter_gives,
+      subst Low (sym e) (tt, tt, tt),
+    )
 
 pub loop-place-preserved : goal.loop-place-preserved
 loop-place-preserved c =
