@@ -76,9 +76,7 @@ fn write_directory(dir: &mut [u8])
 }
 
 // The words of the segment, from its bytes.
-fn show_words(rt: &HostRuntime, segment: &[u8]) -> io::Result<()>
-    requires { length segment.now ≡ 1024 }
-{
+fn show_words(rt: &HostRuntime, segment: &[u8; 1024]) -> io::Result<()> {
     heading(rt, "A directory segment, word by word")?;
     line(rt, "header", Words(&segment[0..10]))?;
     line(rt, "entry 1", Words(&segment[10..24]))?;
@@ -101,9 +99,7 @@ fn show_entry(rt: &HostRuntime, number: usize, segment: &[u8], at: usize) -> io:
 }
 
 // The entries of the segment, as they are read.
-fn show_entries(rt: &HostRuntime, segment: &[u8]) -> io::Result<()>
-    requires { length segment.now ≡ 1024 }
-{
+fn show_entries(rt: &HostRuntime, segment: &[u8; 1024]) -> io::Result<()> {
     let extra = word_at(segment, 6);
     let Some(count) = count_entries(segment, extra) else {
         return line(rt, "entries", "none lawful");
@@ -117,9 +113,7 @@ fn show_entries(rt: &HostRuntime, segment: &[u8]) -> io::Result<()>
 }
 
 // What the header says.
-fn show_header(rt: &HostRuntime, segment: &[u8]) -> io::Result<()>
-    requires { length segment.now ≡ 1024 }
-{
+fn show_header(rt: &HostRuntime, segment: &[u8; 1024]) -> io::Result<()> {
     let total = word_at(segment, 0);
     let next = word_at(segment, 2);
     let highest = word_at(segment, 4);
