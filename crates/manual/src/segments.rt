@@ -6,7 +6,7 @@ use crate::paper::{Octal, Text, Words, heading, line};
 use codec::words::word_at;
 use directory::rules::check_rules;
 use segment::chain::{chain_of, segment_at};
-use segment::entry::{date_at, length_at, name_at, status_at};
+use segment::entry::{EntryWords, status_at};
 use segment::walk::{count_entries, entry_start};
 use std::io;
 use volume::entry::Status;
@@ -85,16 +85,14 @@ fn show_words(rt: &HostRuntime, segment: &[u8; 1024]) -> io::Result<()> {
     line(rt, "end", Words(&segment[52..54]))
 }
 
-// The entry at a place.
-fn show_entry(rt: &HostRuntime, number: usize, segment: &[u8], at: usize) -> io::Result<()>
-    requires { at + 14 ≤ length segment.now }
-{
-    let shown = name_at(segment, at).shown();
+// An entry, by its words.
+fn show_entry(rt: &HostRuntime, number: usize, words: EntryWords) -> io::Result<()> {
+    let shown = words.name().shown();
     let name = Text(&shown[0..6]);
     let kind = Text(&shown[6..9]);
-    let status = status_name(status_at(segment, at));
-    let length = length_at(segment, at);
-    let date = DateWord(date_at(segment, at));
+    let status = status_name(words.status());
+    let length = words.length();
+    let date = DateWord(words.date());
     println!(rt; "  entry {number:<30}{name}.{kind} {status}, {length} blocks, {date}")
 }
 
@@ -107,7 +105,8 @@ fn show_entries(rt: &HostRuntime, segment: &[u8; 1024]) -> io::Result<()> {
     line(rt, "entries", count)?;
     // an entry is found by its index
     for index in 0..count {
-        show_entry(rt, index + 1, segment, entry_start(index, extra))?;
+        let words = EntryWords::new(segment, entry_start(index, extra));
+        show_entry(rt, index + 1, words)?;
     }
     Ok(())
 }
