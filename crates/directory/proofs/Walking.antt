@@ -135,19 +135,23 @@ module _ {x : ℕ} {dir ks : List ℕ} {p i at : ℕ} (w : OnWay x dir ks (spot 
     fits = omega (arith, w.bound, ap length first-left)
 
     -- what the code has of the entry
-    module _ {st : Status} {nm : Name} {len dt : ℕ} (s₁ : Some st ≡ status_in (drop a bs)) (n₁ : nm ≡ name_in (drop a bs)) (l₁ : len ≡ length_in (drop a bs))
-        (d₁ : dt ≡ date_in (drop a bs)) (fit : len ≤ 65535) where
-      behind : drop a bs ≡ drop a seg
-      behind = ap (drop a) b
+    module _ {ws : List ℕ} (w₁ : ws ≡ drop a bs) where
+      behind : ws ≡ drop a seg
+      behind = w₁ ∙ ap (drop a) b
 
+      pub not_none : None ≡ status_in ws → ⊥
+      not_none q = let z : ◌≡◌ {A = Option Status} None (Some e.status) = q ∙ ap status_in behind ∙ fields.status in let y : ◌≡◌ {A = ℕ} 0 1 = cc in omega arith
+
+    module _ {ws : List ℕ} {st : Status} {nm : Name} {len dt : ℕ} (w₁ : ws ≡ drop a bs) (s₁ : Some st ≡ status_in ws) (n₁ : nm ≡ name_in ws)
+        (l₁ : len ≡ length_in ws) (d₁ : dt ≡ date_in ws) (fit : len ≤ 65535) where
       long : len ≡ e.length
-      long = l₁ ∙ ap length_in behind ∙ fields.length
+      long = l₁ ∙ ap length_in (behind w₁) ∙ fields.length
 
       same : ◌≡◌ {A = Placed} (placed k i at e) (record { status = st; name = nm; length = len; date = dt; segment = k; index = i; start = at })
       same =
-          let p₀ : e.status ≡ st = injected (sym fields.status ∙ sym (s₁ ∙ ap status_in behind)) in
-          let p₁ : e.name ≡ nm = sym (n₁ ∙ ap name_in behind ∙ fields.name) in
-          let p₂ : e.date ≡ dt = sym (d₁ ∙ ap date_in behind ∙ fields.date) in
+          let p₀ : e.status ≡ st = injected (sym fields.status ∙ sym (s₁ ∙ ap status_in (behind w₁))) in
+          let p₁ : e.name ≡ nm = sym (n₁ ∙ ap name_in (behind w₁) ∙ fields.name) in
+          let p₂ : e.date ≡ dt = sym (d₁ ∙ ap date_in (behind w₁) ∙ fields.date) in
           λ j. record { status = p₀ j; name = p₁ j; length = sym long j; date = p₂ j; segment = k; index = i; start = at }
 
       pub stepped : (left x dir ks (spot p i at)
@@ -162,9 +166,6 @@ module _ {x : ℕ} {dir ks : List ℕ} {p i at : ℕ} (w : OnWay x dir ks (spot 
         first-chained ∙ ap (λ (z : Placed). (p, z) ∷ chained x dir ks (spot p (i + 1) (at + e.length))) same
             ∙ ap (λ (z : ℕ). (p, record { status = st; name = nm; length = len; date = dt; segment = k; index = i; start = at }) ∷ chained x dir ks (spot p (i + 1) (at + z))) (sym long),
       )
-
-    pub not_none : None ≡ status_in (drop a bs) → ⊥
-    not_none q = let z : ◌≡◌ {A = Option Status} None (Some e.status) = q ∙ ap (λ (z : List ℕ). status_in (drop a z)) b ∙ fields.status in let y : ◌≡◌ {A = ℕ} 0 1 = cc in omega arith
 
   -- at the end of a segment
   module _ {a v : ℕ} {bs : List ℕ} (s : a ≡ entry_start x i) (b : bs ≡ segment_at dir (get_or ks p 0)) (m : v ≡ word_at bs a) (n : v ≡ 2048) where

@@ -72,8 +72,8 @@ fn same_bytes(bytes: &[u8], at: usize, n: usize, others: &[u8]) -> bool
 }
 
 // Whether two entries of a segment are those of an open output.
-fn entries_stand(segment: &[u8], extra: u16, index: usize, entries: &[u8]) -> bool
-    requires { (length segment.now ≡ 1024) × ((extra ≤ 64) × (length entries.now ≡ 156)) }
+fn entries_stand(segment: &[u8; 1024], extra: u16, index: usize, entries: &[u8; 156]) -> bool
+    requires { extra ≤ 64 }
     ensures { result ≡ two_stand extra segment.now index entries.now }
 {
     let Some(count) = count_entries(segment, extra) else {

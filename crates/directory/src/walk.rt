@@ -7,7 +7,7 @@ ghost use Rattle.directory.specs.Walks.{placed, spot, left, chained, OnWay, OnWa
 use crate::placed::{Placed, Spot};
 use codec::words::word_at;
 use segment::chain::segment_at;
-use segment::entry::{date_at, length_at, name_at, status_at};
+use segment::entry::EntryWords;
 use segment::walk::entry_start;
 use volume::segment::END;
 
@@ -50,13 +50,13 @@ impl<'a> Entries<'a> {
             let segment = segment_at(self.dir, number);
             let at = entry_start(index, self.extra);
             if word_at(segment, at) != END {
-                let status = status_at(segment, at)?;
-                let length = length_at(segment, at);
+                let words = EntryWords::new(segment, at);
+                let length = words.length();
                 let entry = Placed {
-                    status,
-                    name: name_at(segment, at),
+                    status: words.status()?,
+                    name: words.name(),
                     length,
-                    date: date_at(segment, at),
+                    date: words.date(),
                     segment: number,
                     index,
                     start: self.at.start,

@@ -6,7 +6,7 @@ use crate::paper::{Octal, Text, Words, heading, line};
 use codec::words::word_at;
 use directory::rules::check_rules;
 use segment::chain::{chain_of, segment_at};
-use segment::entry::{date_at, length_at, name_at, status_at};
+use segment::entry::{EntryWords, status_at};
 use segment::walk::{count_entries, entry_start};
 use std::io;
 use volume::entry::Status;
@@ -76,9 +76,7 @@ fn write_directory(dir: &mut [u8])
 }
 
 // The words of the segment, from its bytes.
-fn show_words(rt: &HostRuntime, segment: &[u8]) -> io::Result<()>
-    requires { length segment.now ≡ 1024 }
-{
+fn show_words(rt: &HostRuntime, segment: &[u8; 1024]) -> io::Result<()> {
     heading(rt, "A directory segment, word by word")?;
     line(rt, "header", Words(&segment[0..10]))?;
     line(rt, "entry 1", Words(&segment[10..24]))?;
@@ -87,23 +85,19 @@ fn show_words(rt: &HostRuntime, segment: &[u8]) -> io::Result<()>
     line(rt, "end", Words(&segment[52..54]))
 }
 
-// The entry at a place.
-fn show_entry(rt: &HostRuntime, number: usize, segment: &[u8], at: usize) -> io::Result<()>
-    requires { at + 14 ≤ length segment.now }
-{
-    let shown = name_at(segment, at).shown();
+// An entry, by its words.
+fn show_entry(rt: &HostRuntime, number: usize, words: EntryWords) -> io::Result<()> {
+    let shown = words.name().shown();
     let name = Text(&shown[0..6]);
     let kind = Text(&shown[6..9]);
-    let status = status_name(status_at(segment, at));
-    let length = length_at(segment, at);
-    let date = DateWord(date_at(segment, at));
+    let status = status_name(words.status());
+    let length = words.length();
+    let date = DateWord(words.date());
     println!(rt; "  entry {number:<30}{name}.{kind} {status}, {length} blocks, {date}")
 }
 
 // The entries of the segment, as they are read.
-fn show_entries(rt: &HostRuntime, segment: &[u8]) -> io::Result<()>
-    requires { length segment.now ≡ 1024 }
-{
+fn show_entries(rt: &HostRuntime, segment: &[u8; 1024]) -> io::Result<()> {
     let extra = word_at(segment, 6);
     let Some(count) = count_entries(segment, extra) else {
         return line(rt, "entries", "none lawful");
@@ -111,15 +105,14 @@ fn show_entries(rt: &HostRuntime, segment: &[u8]) -> io::Result<()>
     line(rt, "entries", count)?;
     // an entry is found by its index
     for index in 0..count {
-        show_entry(rt, index + 1, segment, entry_start(index, extra))?;
+        let words = EntryWords::new(segment, entry_start(index, extra));
+        show_entry(rt, index + 1, words)?;
     }
     Ok(())
 }
 
 // What the header says.
-fn show_header(rt: &HostRuntime, segment: &[u8]) -> io::Result<()>
-    requires { length segment.now ≡ 1024 }
-{
+fn show_header(rt: &HostRuntime, segment: &[u8; 1024]) -> io::Result<()> {
     let total = word_at(segment, 0);
     let next = word_at(segment, 2);
     let highest = word_at(segment, 4);

@@ -15,10 +15,6 @@ word_past bs at i = simp (get_or-drop, add_assoc)
 pub word_here : (bs : List ℕ) (at : ℕ) → word_at (drop at bs) 0 ≡ word_at bs at
 word_here bs at = word_past bs at 0 ∙ ap (word_at bs) (add-zero at)
 
-pub name_is : (bs : List ℕ) (at : ℕ) {f s k : ℕ} → f ≡ word_at bs (at + 2) → s ≡ word_at bs (at + 4) → k ≡ word_at bs (at + 6)
-    → ◌≡◌ {A = Name} (record { first = f; second = s; kind = k }) (name_in (drop at bs))
-name_is bs at p q r = rw (p, q, r, word_past bs at 2, word_past bs at 4, word_past bs at 6)
-
 -- the extra bytes as the checker reads them
 pub extra_is : (bs : List ℕ) (at x : ℕ) → take (at + 14 + x - (at + 14)) (drop (at + 14) bs) ≡ take x (drop 14 (drop at bs))
 extra_is bs at x = ap (λ (n : ℕ). take n (drop (at + 14) bs)) (omega arith) ∙ ap (take x) (sym (drop-drop 14 at bs))

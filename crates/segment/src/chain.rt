@@ -12,13 +12,13 @@ use codec::words::word_at;
 pub type Chain = ArrayVec<usize, 31>;
 
 // The bytes of a segment. For our other crates, as those below: the caller has checked that the workspace holds it.
-pub fn segment_at(dir: &[u8], k: usize) -> &[u8]
+// Directory and number stay two parameters, since the directory is borrowed anew around each write.
+pub fn segment_at(dir: &[u8], k: usize) -> &[u8; 1024]
     requires { (1 ≤ k) × (1024 * k ≤ length dir.now) }
     ensures bytes { result.now ≡ segment_at dir.now k }
-    ensures long { length result.now ≡ 1024 }
 {
     let from = 1024 * (k - 1);
-    &dir[from..from + 1024]
+    dir[from..].first_chunk().unwrap()
 }
 
 // The segment after one, or 0 at the end of the chain.

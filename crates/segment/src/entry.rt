@@ -20,7 +20,7 @@ fn status_of(word: u16) -> Option<Status>
 }
 
 // The status of the entry at a place, unless it is none of the four. For our other crates: the caller has checked that
-// its word is there.
+// its word is there. No method below, since at the end of a segment there may be no more than this word.
 #[tactic(auto, using(crate::proofs::Fields::word_here))]
 pub fn status_at(bytes: &[u8], at: usize) -> Option<Status>
     requires { at + 2 ≤ length bytes.now }
@@ -29,45 +29,62 @@ pub fn status_at(bytes: &[u8], at: usize) -> Option<Status>
     status_of(word_at(bytes, at))
 }
 
-// The name of the entry at a place. For our other crates, as those below: the caller has checked that its seven words
-// are there.
-#[tactic(auto, using(crate::proofs::Fields::name_is))]
-pub fn name_at(bytes: &[u8], at: usize) -> Name
-    requires { at + 14 ≤ length bytes.now }
-    ensures { result ≡ name_in (drop at bytes.now) }
-{
-    Name {
-        first: word_at(bytes, at + 2),
-        second: word_at(bytes, at + 4),
-        kind: word_at(bytes, at + 6),
+// The seven words of an entry, at the front of some bytes.
+#[derive(Clone, Copy)]
+pub struct EntryWords<'a> {
+    bytes: &'a [u8],
+    ghost there: { 14 ≤ length bytes.now },
+}
+
+impl<'a> EntryWords<'a> {
+    // Those of the entry at a place. For our other crates: the caller has checked that they are there.
+    pub fn new(bytes: &'a [u8], at: usize) -> EntryWords<'a>
+        requires { at + 14 ≤ length bytes.now }
+        ensures { result.bytes.now ≡ drop at bytes.now }
+    {
+        EntryWords {
+            bytes: &bytes[at..],
+        }
     }
-}
 
-// Its length in blocks.
-#[tactic(auto, using(crate::proofs::Fields::word_past))]
-pub fn length_at(bytes: &[u8], at: usize) -> u16
-    requires { at + 14 ≤ length bytes.now }
-    ensures { result ≡ length_in (drop at bytes.now) }
-{
-    word_at(bytes, at + 8)
-}
+    // Its status, unless it is none of the four.
+    pub fn status(self) -> Option<Status>
+        ensures { result ≡ status_in self.entry.bytes.now }
+    {
+        status_at(self.bytes, 0)
+    }
 
-// Its job word.
-#[tactic(auto, using(crate::proofs::Fields::word_past))]
-pub fn job_at(bytes: &[u8], at: usize) -> u16
-    requires { at + 14 ≤ length bytes.now }
-    ensures { result ≡ job_in (drop at bytes.now) }
-{
-    word_at(bytes, at + 10)
-}
+    // Its name.
+    pub fn name(self) -> Name
+        ensures { result ≡ name_in self.entry.bytes.now }
+    {
+        Name {
+            first: word_at(self.bytes, 2),
+            second: word_at(self.bytes, 4),
+            kind: word_at(self.bytes, 6),
+        }
+    }
 
-// Its date word.
-#[tactic(auto, using(crate::proofs::Fields::word_past))]
-pub fn date_at(bytes: &[u8], at: usize) -> u16
-    requires { at + 14 ≤ length bytes.now }
-    ensures { result ≡ date_in (drop at bytes.now) }
-{
-    word_at(bytes, at + 12)
+    // Its length in blocks.
+    pub fn length(self) -> u16
+        ensures { result ≡ length_in self.entry.bytes.now }
+    {
+        word_at(self.bytes, 8)
+    }
+
+    // Its job word.
+    pub fn job(self) -> u16
+        ensures { result ≡ job_in self.entry.bytes.now }
+    {
+        word_at(self.bytes, 10)
+    }
+
+    // Its date word.
+    pub fn date(self) -> u16
+        ensures { result ≡ date_in self.entry.bytes.now }
+    {
+        word_at(self.bytes, 12)
+    }
 }
 
 // Extra bytes, with zeros behind them.
@@ -87,14 +104,14 @@ pub fn decode_entry(bytes: &[u8], at: usize, extra: u16) -> Option<Entry>
     requires { (at + 14 + extra ≤ length bytes.now) × (extra ≤ 64) }
     ensures { result ≡ entry_of extra (drop at bytes.now) }
 {
-    let status = status_at(bytes, at)?;
+    let words = EntryWords::new(bytes, at);
     let behind = at + 14;
     Some(Entry {
-        status,
-        name: name_at(bytes, at),
-        length: length_at(bytes, at),
-        job: job_at(bytes, at),
-        date: date_at(bytes, at),
+        status: words.status()?,
+        name: words.name(),
+        length: words.length(),
+        job: words.job(),
+        date: words.date(),
         extra: extra_of(&bytes[behind..behind + extra as usize]),
     })
 }

@@ -22,9 +22,8 @@ pub fn entry_start(index: usize, extra: u16) -> usize
 }
 
 // How many entries a segment has, unless one has none of the four statuses, or no end comes after as many as it can
-// hold. For our other crates: the caller hands on a whole segment.
-pub fn count_entries(segment: &[u8], extra: u16) -> Option<usize>
-    requires { length segment.now ≡ 1024 }
+// hold.
+pub fn count_entries(segment: &[u8; 1024], extra: u16) -> Option<usize>
     ensures count { result ≡ option_map length (segment_entries extra segment.now) }
     ensures most { IfSome result (λ n. n ≤ capacity_of extra) }
 {

@@ -22,8 +22,7 @@ pub fn store_from<D: Device>(d: &mut D, dir: &[u8], k: usize) -> Result<(), Devi
     ensures after { Became (D.Device.held d.old).stack (overwritten (shows (D.Device.held d.old)) (4 + 2 * k) (halves (segment_at dir.now k))) (D.Device.held d.new).stack }
     ensures fixed { D.Device.fixed d.new ≡ D.Device.fixed d.old }
 {
-    let bytes = segment_at(dir, k).as_array().unwrap();
-    store_segment(d, k as u32, bytes)
+    store_segment(d, k as u32, segment_at(dir, k))
 }
 
 // The directory that is read from the blocks is the one that was written.

@@ -5,29 +5,19 @@ use Rattle.directory.proofs.walk.Entries.next_entry.Goals as goal
 pub entry_start-at-requires : goal.entry_start-at-requires
 entry_start-at-requires c = way.within c.loop-place.invariant.0 c.loop-place-test.true
 
-pub length_at-length-requires : goal.length_at-length-requires
-length_at-length-requires c =
-    let r = way.room c.loop-place.invariant.0 c.loop-place-test.true c.entry_start-at.ensures.start c.segment_at-segment.ensures.bytes c.word_at.ensures c.if-word_at-ne-END.true in
-    omega (arith, c.entry_start-at.ensures.room r)
-
-pub name_at-requires : goal.name_at-requires
-name_at-requires c =
-    let r = way.room c.loop-place.invariant.0 c.loop-place-test.true c.entry_start-at.ensures.start c.segment_at-segment.ensures.bytes c.word_at.ensures c.if-word_at-ne-END.true in
-    omega (arith, c.entry_start-at.ensures.room r)
-
-pub date_at-requires : goal.date_at-requires
-date_at-requires c =
+pub new-words-requires : goal.new-words-requires
+new-words-requires c =
     let r = way.room c.loop-place.invariant.0 c.loop-place-test.true c.entry_start-at.ensures.start c.segment_at-segment.ensures.bytes c.word_at.ensures c.if-word_at-ne-END.true in
     omega (arith, c.entry_start-at.ensures.room r)
 
 pub returns-in_err-status : goal.returns-in_err-status
 returns-in_err-status c =
-    absurd (way.not_none c.loop-place.invariant.0 c.loop-place-test.true c.entry_start-at.ensures.start c.segment_at-segment.ensures.bytes c.word_at.ensures c.if-word_at-ne-END.true c.in_err-status.ensures)
+    absurd (way.not_none c.loop-place.invariant.0 c.loop-place-test.true c.entry_start-at.ensures.start c.segment_at-segment.ensures.bytes c.word_at.ensures c.if-word_at-ne-END.true c.new-words.ensures c.in_err-status.ensures)
 
 pub returns-then-word_at-ne-END : goal.returns-then-word_at-ne-END
 returns-then-word_at-ne-END c =
     let r = way.stepped c.loop-place.invariant.0 c.loop-place-test.true c.entry_start-at.ensures.start c.segment_at-segment.ensures.bytes c.word_at.ensures c.if-word_at-ne-END.true
-    c.in_ok-status.ensures c.name_at.ensures c.length_at-length.ensures c.date_at.ensures (omega (arith, c.length_at-length.type_inv)) in
+    c.new-words.ensures c.in_ok-status.ensures c.name.ensures c.length-length.ensures c.date.ensures (omega (arith, c.length-length.type_inv)) in
     record {
       step = (sym c.loop-place.invariant.1 ∙ r.0, r.1, omega (arith, c.args.self.way.bound));
       chain = sym c.loop-place.invariant.2 ∙ r.2;
