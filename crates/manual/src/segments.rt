@@ -3,7 +3,7 @@ ghost use Rattle.std.specs.Prelude.{◌≡◌, ◌+◌, ◌*◌, ◌≤◌, leng
 
 use crate::dates::DateWord;
 use crate::paper::{Octal, Text, Words, heading, line};
-use codec::words::word_at;
+use codec::words::{put_words, word_at};
 use directory::rules::check_rules;
 use segment::chain::{chain_of, segment_at};
 use segment::entry::{EntryWords, status_at};
@@ -55,24 +55,15 @@ const EMPTY: [u16; 7] = [0o1000, 0o325, 0o63471, 0o23364, 0o632, 0, 0];
 
 const END: [u16; 1] = [0o4000];
 
-// Writes words over the bytes from a place on.
-fn write_words(out: &mut [u8], at: usize, words: &[u16])
-    requires { at + 2 * length words.now ≤ length out.old }
-{
-    for (place, word) in out[at..].chunks_exact_mut(2).zip(words) {
-        place.copy_from_slice(&word.to_le_bytes());
-    }
-}
-
 // The directory, with segment 1 alone in use.
 fn write_directory(dir: &mut [u8])
     requires { 54 ≤ length dir.old }
 {
-    write_words(dir, 0, &HEADER);
-    write_words(dir, 10, &MONITOR);
-    write_words(dir, 24, &HANDLER);
-    write_words(dir, 38, &EMPTY);
-    write_words(dir, 52, &END);
+    put_words(dir, 0, &HEADER);
+    put_words(dir, 10, &MONITOR);
+    put_words(dir, 24, &HANDLER);
+    put_words(dir, 38, &EMPTY);
+    put_words(dir, 52, &END);
 }
 
 // The words of the segment, from its bytes.

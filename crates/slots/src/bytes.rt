@@ -13,7 +13,7 @@ use codec::words::{put, word_at};
 use segment::chain::segment_at;
 use segment::entry::decode_entry;
 use segment::walk::entry_start;
-use volume::entry::{Entry, Status, empty_of};
+use volume::entry::{Entry, empty_of};
 use volume::segment::{Header, capacity, encode_segment};
 
 // The entries of a segment, which has room for 72 at most.
@@ -41,7 +41,7 @@ pub fn entries_at(dir: &[u8], k: usize, extra: u16) -> Slots
 {
     let segment = segment_at(dir, k);
     let mut entries = Slots::new();
-    // A loop: `extend` would answer an error that cannot come.
+    // By `map_while` the loop did not prove.
     for i in 0..capacity(extra) {
         let Some(e) = decode_entry(segment, entry_start(i, extra), extra) else {
             return entries;
@@ -78,7 +78,7 @@ pub fn put_segment(dir: &mut [u8], k: usize, header: &Header, entries: &[Entry])
     put(dir, 1024 * (k - 1), &segment);
 }
 
-// All entries. For our other crates, as those below.
+// All entries. This function and those below stay for what they are called: the entries that a segment is written with.
 pub fn all_entries(s: &Slots) -> &[Entry]
     ensures entries { result.now ≡ s.now.items }
     ensures long { length result.now ≡ array_vec_len s.now }

@@ -20,6 +20,7 @@ struct Entry {
     date: u16,
 }
 
+// Raw words, apart from the program's own table of statuses.
 const EMPTY: u16 = 512;
 
 const PERMANENT: u16 = 1024;
