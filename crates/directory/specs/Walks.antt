@@ -6,6 +6,7 @@ use mathlib.Core.Bool.{Bool-set}
 use Rattle.volume.specs.declared.entry.Entry.{Entry}
 use Rattle.segment.specs.Segments.{segment_entries}
 use Rattle.segment.specs.Chains.{segment_at}
+pub use Rattle.segment.specs.Chains.{InDirectory}
 use Rattle.segment.specs.Directories.{entries_at}
 use Rattle.directory.specs.declared.placed.Placed.{Placed}
 use Rattle.directory.specs.declared.placed.Spot.{Spot}
@@ -51,10 +52,6 @@ chained x dir ks s = chained_from x dir s.place s.index s.start (drop s.place ks
 -- segment k is in the directory and its entries are lawful
 abbrev pub Readable : ℕ → List ℕ → ℕ → Type 0
 Readable x dir k = (1 ≤ k) × (1024 * k ≤ length dir) × (is_some (segment_entries x (segment_at dir k)) ≡ true)
-
--- segment k is in the directory
-abbrev pub InDirectory : List ℕ → ℕ → Type 0
-InDirectory dir k = (1 ≤ k) × (1024 * k ≤ length dir)
 
 -- a spot from which the chain can be walked; starts stay far below 2 ^ 32
 pub record OnWay (x : ℕ) (dir ks : List ℕ) (s : Spot) : Type 0 where

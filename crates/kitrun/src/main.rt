@@ -3,6 +3,7 @@
 
 use device::image::Image;
 use files::pack::Pack;
+use level::load::WORKSPACE;
 use run::play::{Stop, run};
 use std::io;
 use std::io::Read;
@@ -10,10 +11,8 @@ use std::io::Read;
 // The bytes that a run may have.
 const MOST: usize = 8192;
 
-// The bytes of the image, and of the workspace that a run asks for.
+// The bytes of the image.
 const IMAGE: usize = 51_200;
-
-const WORKSPACE: usize = 32_768;
 
 // A field takes three bytes and more, so a run has at most 2,730 of them and a rest, each with room for a line.
 const REPORT: usize = 54_620;

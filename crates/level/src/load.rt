@@ -13,6 +13,9 @@ use volume::fault::FileFault;
 use volume::level::{level_size, segments_fit};
 use volume::rule::Rule;
 
+// The bytes of workspace that a call asks for.
+pub const WORKSPACE: usize = 32_768;
+
 // Reads block b to a place of the workspace.
 fn read_to<D: Device>(d: &D, b: u32, work: &mut [u8], at: usize) -> Result<(), DeviceFault>
     requires { at + 512 ≤ length work.old }
@@ -47,7 +50,7 @@ pub fn load<D: Device>(d: &D, work: &mut [u8]) -> Result<usize, FileFault>
     ensures good { IfOk result (λ s. AllGood (shows (D.Device.held d.now)) 6 (6 + 2 * s)) }
     ensures range { IfOk result (λ s. (1 ≤ s) × (s ≤ 31) × (32768 ≤ length work.old) × (word_at work.new 0 ≡ s)) }
 {
-    if work.len() < 32_768 {
+    if work.len() < WORKSPACE {
         return Err(FileFault::WorkspaceTooSmall);
     }
     let blocks = level_size(d);

@@ -4,7 +4,7 @@ ghost use Rattle.device.specs.Held.{shows};
 ghost use Rattle.level.specs.Lookups.{lookup_answer, read_fetched, read_answer, read_buffer};
 
 use crate::check::check;
-use crate::load::directory_of;
+use crate::load::{WORKSPACE, directory_of};
 use codec::name::Name;
 use device::Device;
 use directory::pending::Pending;
@@ -21,7 +21,7 @@ pub fn lookup<D: Device>(
     ensures answer { result ≡ lookup_answer (length work.old) (shows (D.Device.held d.now)) output name.now }
     ensures start { IfOk result (λ f. f.0 ≤ 200000000) }
 {
-    if work.len() < 32_768 {
+    if work.len() < WORKSPACE {
         return Err(FileFault::WorkspaceTooSmall);
     }
     let name = Name::from_bytes(name)?;

@@ -8,6 +8,7 @@ ghost use Rattle.run.specs.Play.{end_number, stop_number, ran, play, shown_tag, 
 use crate::perform::{detail_of, is_known, number_of, perform};
 use device::Device;
 use files::pack::Pack;
+use level::load::WORKSPACE;
 use runfile::field::Fields;
 use runfile::report::write_line;
 
@@ -124,7 +125,7 @@ pub fn run<D: Device>(pack: &mut Pack<D>, run: &[u8], work: &mut [u8], report: &
             end: Err(Stop::RunTooLong),
         };
     }
-    if work.len() < 32_768 {
+    if work.len() < WORKSPACE {
         return Ran {
             lines: 0,
             end: Err(Stop::WorkspaceTooSmall),

@@ -1,5 +1,5 @@
 -- The segments of a directory in the caller's workspace, and their chain.
-use Rattle.std.specs.Prelude.{ℕ, zero, suc, ◌+◌, ◌-◌, ◌*◌, cond, ◌||◌, List, [], ◌∷◌, take, drop, Some, None, Option, ◌==◌, nat_lt}
+use Rattle.std.specs.Prelude.{ℕ, zero, suc, ◌+◌, ◌-◌, ◌*◌, ◌≤◌, cond, ◌||◌, List, [], ◌∷◌, length, take, drop, Some, None, Option, ◌==◌, nat_lt}
 use Rattle.std.specs.Option.{option_map}
 use Rattle.codec.specs.Words.{word_at}
 
@@ -16,3 +16,7 @@ unfoldable pub chain_from : ℕ → ℕ → (ℕ → ℕ) → ℕ → Option (Li
 chain_from zero h next k = cond (k == 0) (Some []) None
 chain_from (suc n) h next k =
     cond (k == 0 || nat_lt h k) None (option_map (λ ks. k ∷ ks) (chain_from n h next (next k)))
+
+-- segment k is in the directory
+abbrev pub InDirectory : List ℕ → ℕ → Type 0
+InDirectory dir k = (1 ≤ k) × (1024 * k ≤ length dir)

@@ -2,7 +2,7 @@
 ghost use Rattle.std.specs.Prelude.{◌≡◌, ◌*◌, ◌≤◌, length, IfSome};
 ghost use Rattle.std.specs.List.{AllByRecursion};
 ghost use Rattle.std.specs.Option.{option_map};
-ghost use Rattle.segment.specs.Chains.{segment_at, next_of, chain_from};
+ghost use Rattle.segment.specs.Chains.{InDirectory, segment_at, next_of, chain_from};
 ghost use Rattle.segment.specs.Rule4.{RuleFour};
 
 use arrayvec::ArrayVec;
@@ -14,7 +14,7 @@ pub type Chain = ArrayVec<usize, 31>;
 // The bytes of a segment. For our other crates, as those below: the caller has checked that the workspace holds it.
 // Directory and number stay two parameters, since the directory is borrowed anew around each write.
 pub fn segment_at(dir: &[u8], k: usize) -> &[u8; 1024]
-    requires { (1 ≤ k) × (1024 * k ≤ length dir.now) }
+    requires { InDirectory dir.now k }
     ensures bytes { result.now ≡ segment_at dir.now k }
 {
     let from = 1024 * (k - 1);
@@ -24,7 +24,7 @@ pub fn segment_at(dir: &[u8], k: usize) -> &[u8; 1024]
 // The segment after one, or 0 at the end of the chain.
 #[tactic(auto, unfolding(crate::specs::Chains::next_of))]
 pub fn next_of(dir: &[u8], k: usize) -> usize
-    requires { (1 ≤ k) × (1024 * k ≤ length dir.now) }
+    requires { InDirectory dir.now k }
     ensures { result ≡ next_of dir.now k }
 {
     word_at(dir, 1024 * (k - 1) + 2) as usize

@@ -3,6 +3,7 @@ ghost use Rattle.std.specs.Prelude.{◌≡◌, ◌-◌, ◌*◌, ◌≤◌, leng
 ghost use Rattle.arrayvec.specs.ArrayVec.{array_vec_len};
 ghost use Rattle.codec.specs.Words.{written};
 ghost use Rattle.volume.specs.Segments.{capacity_of, segment_bytes};
+ghost use Rattle.segment.specs.Chains.{InDirectory};
 ghost use Rattle.directory.specs.Walks.{Readable};
 ghost use Rattle.edits.specs.Entries.{is_empty};
 ghost use Rattle.edits.specs.Values.{cleaned, value_at};
@@ -54,7 +55,7 @@ pub fn entries_at(dir: &[u8], k: usize, extra: u16) -> Slots
 // The header of a segment: total, highest and extra are those of segment 1. For our other crates: the caller has checked
 // that the directory holds the segment.
 pub fn header_at(dir: &[u8], k: usize) -> Header
-    requires { (1 ≤ k) × (1024 * k ≤ length dir.now) }
+    requires { InDirectory dir.now k }
     ensures { result ≡ header_at dir.now k }
 {
     Header {
@@ -69,7 +70,7 @@ pub fn header_at(dir: &[u8], k: usize) -> Header
 // Writes a segment whole. For our other crates: the caller has checked that the directory holds the segment, and hands on
 // no more entries than it can hold.
 pub fn put_segment(dir: &mut [u8], k: usize, header: &Header, entries: &[Entry])
-    requires place { (1 ≤ k) × (1024 * k ≤ length dir.old) }
+    requires place { InDirectory dir.old k }
     requires room { (header.now.extra ≤ 64) × (length entries.now ≤ capacity_of header.now.extra) }
     ensures { dir.new ≡ written dir.old (1024 * (k - 1)) (segment_bytes header.now entries.now) }
 {

@@ -33,7 +33,7 @@ pub store_from-requires : goal.store_from-requires
 store_from-requires g c =
     let w = found_some _ _ c.in_ok-file.file (c.find_place.ensures.file ∙ ap (λ (z : List ℕ). file_place z c.args.name) c.new.ensures) c.in_ok-file.ensures.ok_part in
     let r = segment_range _ _ _ c.requires c.args.name c.in_ok-file.file w c.empty_at.new.dir c.empty_at.auto.dir in
-    record { range = (r.0, (r.1, r.2)); known = segment_good _ _ _ c.requires c.args.name c.in_ok-file.file w }
+    record { range = (r.1, (r.0, r.2)); known = segment_good _ _ _ c.requires c.args.name c.in_ok-file.file w }
 
 pub returns : goal.returns
 returns g c =

@@ -9,8 +9,8 @@ use Rattle.level.proofs.Fetching.{holds_list, segments_held}
 use Rattle.level.proofs.Loading.{good_join, load_small, load_one, load_first, load_two, load_other, load_all}
 use Rattle.level.proofs.load.load.Goals as goal
 
-pub returns-then-work-lt32768 : goal.returns-then-work-lt32768
-returns-then-work-lt32768 g c =
+pub returns-then-work-lt-WORKSPACE : goal.returns-then-work-lt-WORKSPACE
+returns-then-work-lt-WORKSPACE g c =
     record { answer = load_small (length c.args.work.now) (shows (g.D.Device.held c.args.d.now)) (omega arith); bytes = tt; good = tt; range = tt }
 
 pub returns-then-blocks-lt9 : goal.returns-then-blocks-lt9

@@ -5,8 +5,8 @@ use Rattle.directory.specs.Sounds.{SoundBytes}
 use Rattle.level.proofs.Looking.{look_small, look_unnamed, look_refused, look_found}
 use Rattle.level.proofs.lookup.lookup.Goals as goal
 
-pub returns-then-work-lt32768 : goal.returns-then-work-lt32768
-returns-then-work-lt32768 g c = record { answer = look_small (length c.args.work.now) (shows (g.D.Device.held c.args.d.now)) c.args.output c.args.name.now (omega arith); start = tt }
+pub returns-then-work-lt-WORKSPACE : goal.returns-then-work-lt-WORKSPACE
+returns-then-work-lt-WORKSPACE g c = record { answer = look_small (length c.args.work.now) (shows (g.D.Device.held c.args.d.now)) c.args.output c.args.name.now (omega arith); start = tt }
 
 pub returns-in_err-name : goal.returns-in_err-name
 returns-in_err-name g c =

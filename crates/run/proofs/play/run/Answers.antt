@@ -9,8 +9,8 @@ returns-then-run-gt262144 g c =
     (run_long (state_of g.D.Device.held c.args.pack.now) c.args.run.now (length c.args.work.now) c.args.report.now (omega arith))
     record { lines = refl; end = refl; state = refl; report = refl; fixed = refl; fits = omega arith }
 
-pub returns-then-work-lt32768 : goal.returns-then-work-lt32768
-returns-then-work-lt32768 g c =
+pub returns-then-work-lt-WORKSPACE : goal.returns-then-work-lt-WORKSPACE
+returns-then-work-lt-WORKSPACE g c =
     rw
     (work_small (state_of g.D.Device.held c.args.pack.now) c.args.run.now (length c.args.work.now) c.args.report.now (omega arith) (omega arith))
     record { lines = refl; end = refl; state = refl; report = refl; fixed = refl; fits = omega arith }
