@@ -1,4 +1,5 @@
 pub mod Codes
 pub mod Parts
 pub mod Spellings
+pub mod Tens
 pub mod Written

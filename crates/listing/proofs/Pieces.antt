@@ -1,8 +1,9 @@
 -- Lists of a known length, element by element.
-use Rattle.std.proofs.Common.{◌≡◌, ℕ, zero, suc, ◌+◌, ◌≤◌, List, [], ◌∷◌, length, get_or, take, drop, replicate, sym, refl, ap, ◌∙◌, add-one, arith}
+use Rattle.std.proofs.Common.{◌≡◌, ℕ, zero, suc, ◌+◌, ◌≤◌, List, [], ◌∷◌, length, get_or, take, drop, replicate, ◌++◌, sym, refl, ap, ◌∙◌, add-one, arith}
 use Rattle.std.proofs.lemmas.List.{drop_more, take_all}
 use Rattle.codec.specs.Words.{written}
-use Rattle.listing.specs.Listings.{line_of}
+use Rattle.codec.specs.Digits.{two}
+use Rattle.listing.specs.Listings.{four, line_of}
 
 -- n elements from index i on
 abbrev pub each : ℕ → ℕ → List ℕ → List ℕ
@@ -17,6 +18,14 @@ each_is i (suc n) xs h =
 
 pub each_all : (n : ℕ) (xs : List ℕ) → length xs ≡ n → each 0 n xs ≡ xs
 each_all n xs h = each_is 0 n xs (omega arith) ∙ take_all n xs (omega arith)
+
+-- a row of dashes with a day, a month and a year written over it
+pub dated_is : (day year : ℕ) (month : List ℕ) → length month ≡ 3
+    → written (written (written (replicate 11 45) 0 (two day)) 3 month) 7 (four year) ≡ two day ++ (45 ∷ (month ++ (45 ∷ four year)))
+unfolding written
+dated_is day year month h =
+    let m = each_all 3 month h in
+    sym (λ t. written (written (written (replicate 11 45) 0 (two day)) 3 (m t)) 7 (four year)) ∙ (λ t. two day ++ (45 ∷ (m t ++ (45 ∷ four year))))
 
 -- a line of blanks with its pieces written over it
 abbrev filled : List ℕ → List ℕ → ℕ → List ℕ → List ℕ

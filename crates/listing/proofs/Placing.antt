@@ -1,8 +1,8 @@
 -- What is written of the lines.
-use Rattle.std.proofs.Common.{◌≡◌, ℕ, ◌+◌, ◌*◌, ◌/◌, ◌%◌, ◌^◌, ◌<◌, ◌≤◌, Bool, true, false, cond, List, [], ◌∷◌, ◌++◌, length, take, drop, Some, None, codes, sym, refl, ap, ◌∙◌, add-zero, zero-add, arith}
+use Rattle.std.proofs.Common.{◌≡◌, ℕ, ◌+◌, ◌*◌, ◌/◌, ◌^◌, ◌<◌, ◌≤◌, Bool, true, false, cond, List, [], ◌∷◌, ◌++◌, length, take, drop, Some, None, codes, sym, refl, ap, ◌∙◌, add-zero, zero-add, arith}
 use Rattle.std.specs.List.{flat_map}
 use Rattle.std.proofs.lemmas.List.{append_assoc, length-append, take-append-drop, take_at}
-use Rattle.std.proofs.lemmas.Fmt.{decimal_digit, decimal_step, length-decimal-le}
+use Rattle.std.proofs.lemmas.Fmt.{length-decimal-le}
 use Rattle.std.proofs.lemmas.Bool.{cond-true, cond-false, le-leb, lt-leb}
 use Rattle.codec.specs.Words.{written}
 use Rattle.codec.proofs.Written.{written-two}
@@ -10,19 +10,14 @@ use Rattle.directory.specs.declared.placed.Placed.{Placed}
 use Rattle.directory.specs.Finds.{is_file, blocks_in}
 use Rattle.listing.specs.declared.totals.Totals.{Totals}
 use Rattle.listing.specs.Listings.{plain, file_line, files_in, empties_in, file_lines, total_line, last_line, listing, listing_answer, listing_after}
+use Rattle.listing.proofs.Spelled.{one_digit, digit_more}
 
--- one digit, and one digit more
-pub plain-one : (n : ℕ) → n < 10 → plain n ≡ (48 + n) ∷ []
-plain-one n h = decimal_digit n h
-
-pub plain_more : (n : ℕ) → 10 ≤ n → n < 2 ^ 32 → plain n ≡ plain (n / 10) ++ ((48 + n % 10) ∷ [])
-plain_more n h k = decimal_step n h (omega arith)
-
+-- the length with one digit, and with one digit more
 pub length-plain-one : (n : ℕ) → n < 10 → length (plain n) ≡ 1
-length-plain-one n h = ap length (plain-one n h)
+length-plain-one n h = ap length (one_digit n h)
 
 pub length-plain_more : (n : ℕ) → 10 ≤ n → n < 2 ^ 32 → length (plain n) ≡ length (plain (n / 10)) + 1
-length-plain_more n h k = ap length (plain_more n h k) ∙ length-append (plain (n / 10)) _
+length-plain_more n h k = ap length (digit_more n h k) ∙ length-append (plain (n / 10)) _
 
 pub plain_short : (n : ℕ) → n < 2 ^ 32 → length (plain n) ≤ 10
 plain_short n h = length-decimal-le 10 n (omega arith) (omega arith) (omega arith)

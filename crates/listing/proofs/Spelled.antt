@@ -1,25 +1,22 @@
 -- The digits of numbers, by their columns.
-use Rattle.std.proofs.Common.{◌≡◌, ℕ, ◌+◌, ◌*◌, ◌/◌, ◌%◌, ◌<◌, ◌≤◌, ◌⊎◌, List, [], ◌∷◌, ◌++◌, ap, ◌∙◌, inl, inr, arith}
-use native.Mathlib.Nat.{div-div-eq-div-mul}
+use Rattle.std.proofs.Common.{◌≡◌, ℕ, ◌/◌, ◌^◌, ◌<◌, ◌≤◌, ◌⊎◌, List, [], ◌∷◌, ◌++◌, ap, ◌∙◌, inl, inr, arith}
 use Rattle.std.proofs.lemmas.Fmt.{decimal_digit, decimal_step}
 use Rattle.std.proofs.lemmas.Bool.{cases_lt, lt-ltb, le-ltb}
 use Rattle.codec.specs.Digits.{digit_at, two}
+use Rattle.codec.proofs.Tens.{front}
 use Rattle.listing.specs.Listings.{four, right_in, plain}
 use Rattle.listing.specs.Columns.{column_at}
 
--- the digit in front of the last, and the last
-front : (n unit : ℕ) → digit_at (n / 10) unit ≡ digit_at n (10 * unit)
-front n unit = ap (λ (q : ℕ). 48 + q % 10) (div-div-eq-div-mul n 10 unit)
-
-last : (n : ℕ) → 48 + n % 10 ≡ digit_at n 1
-last n = omega arith
-
--- numbers of one to five digits
-one_digit : (n : ℕ) → n < 10 → plain n ≡ digit_at n 1 ∷ []
+-- one digit, and one digit more
+pub one_digit : (n : ℕ) → n < 10 → plain n ≡ digit_at n 1 ∷ []
 one_digit n h = decimal_digit n h ∙ ap (λ (d : ℕ). d ∷ []) (omega arith)
 
+pub digit_more : (n : ℕ) → 10 ≤ n → n < 2 ^ 32 → plain n ≡ plain (n / 10) ++ (digit_at n 1 ∷ [])
+digit_more n h k = decimal_step n h (omega arith) ∙ ap (λ (d : ℕ). plain (n / 10) ++ (d ∷ [])) (omega arith)
+
+-- numbers of two to five digits
 step : (n : ℕ) (ds : List ℕ) → 10 ≤ n → n < 65536 → plain (n / 10) ≡ ds → plain n ≡ ds ++ (digit_at n 1 ∷ [])
-step n ds h k e = decimal_step n h (omega arith) ∙ ap (λ (xs : List ℕ). xs ++ ((48 + n % 10) ∷ [])) e ∙ ap (λ (d : ℕ). ds ++ (d ∷ [])) (last n)
+step n ds h k e = digit_more n h (omega arith) ∙ ap (λ (xs : List ℕ). xs ++ (digit_at n 1 ∷ [])) e
 
 two_digits : (n : ℕ) → 10 ≤ n → n < 100 → plain n ≡ two n
 two_digits n h k = step n _ h (omega arith) (one_digit (n / 10) (omega arith)) ∙ rw (front n 1)

@@ -5,7 +5,7 @@ use Rattle.codec.specs.declared.date.Date.{Date}
 use Rattle.codec.specs.declared.date.UnlawfulDate.{UnlawfulDate}
 use Rattle.codec.specs.declared.name.Name.{Name}
 use Rattle.codec.specs.Dates.{dated_of, month_name}
-use Rattle.codec.specs.Digits.{digit_at, two}
+use Rattle.codec.specs.Digits.{digits_of, two}
 use Rattle.codec.specs.Names.{shown}
 pub use Rattle.volume.specs.Entries.{empty_status}
 use Rattle.volume.specs.declared.entry.Status.{Status}
@@ -14,7 +14,7 @@ use Rattle.directory.specs.declared.placed.Placed.{Placed}
 use Rattle.directory.specs.Finds.{is_file, blocks_in}
 
 abbrev pub four : ℕ → List ℕ
-four n = digit_at n 1000 ∷ digit_at n 100 ∷ two n
+four n = digits_of 4 n
 
 -- all digits of a number, without leading zeros
 abbrev pub plain : ℕ → List ℕ

@@ -15,7 +15,7 @@ fn column(n: u64, unit: u64) -> u8
     if n < unit { b' ' } else { digit(n, unit) }
 }
 
-// A number right-aligned in five columns.
+// A number right-aligned in five columns. Written out: in a loop the last column, a digit even of 0, would stand apart.
 pub(crate) fn right_in_five(n: u16) -> [u8; 5]
     ensures { result ≡ right_in 5 (plain n) }
 {
@@ -35,11 +35,11 @@ pub(crate) fn put_plain(out: &mut [u8], at: usize, n: u32) -> usize
     ensures after { out.new ≡ written out.old at (plain n) }
     ensures behind { result ≡ at + length (plain n) }
 {
-    if n < 10 {
-        put(out, at, &[b'0' + n as u8]);
-        return at + 1;
-    }
-    let last = put_plain(out, at, n / 10);
-    put(out, last, &[b'0' + (n % 10) as u8]);
+    let last = if n < 10 {
+        at
+    } else {
+        put_plain(out, at, n / 10)
+    };
+    put(out, last, &[digit(u64::from(n), 1)]);
     last + 1
 }

@@ -4,7 +4,7 @@ ghost use Rattle.listing.specs.Listings.{day_text, date_text, mark, name_text, f
 
 use crate::digits::right_in_five;
 use codec::date::{Date, dated, month_name};
-use codec::digits::digit;
+use codec::digits::digits;
 use codec::name::Name;
 use codec::words::put;
 use directory::placed::Placed;
@@ -14,22 +14,11 @@ use volume::entry::Status;
 fn day_text(date: Date) -> [u8; 11]
     ensures { result ≡ day_text date }
 {
-    let day = u64::from(date.day);
-    let year = u64::from(date.year);
-    let [first, second, third] = month_name(date.month);
-    [
-        digit(day, 10),
-        digit(day, 1),
-        b'-',
-        first,
-        second,
-        third,
-        b'-',
-        digit(year, 1000),
-        digit(year, 100),
-        digit(year, 10),
-        digit(year, 1),
-    ]
+    let mut text = [b'-'; 11];
+    put(&mut text, 0, &digits::<2>(u64::from(date.day)));
+    put(&mut text, 3, &month_name(date.month));
+    put(&mut text, 7, &digits::<4>(u64::from(date.year)));
+    text
 }
 
 // What a date word shows as: no date is eleven blanks, and an unlawful one question marks. A rule of the project: by `let .. else`.
@@ -54,6 +43,7 @@ fn mark(status: Status) -> u8
 }
 
 // Six characters of name, a point and three of type.
+#[tactic(auto, unfolding(codec::specs::Names::shown, crate::specs::Listings::name_text))]
 fn name_text(name: Name) -> [u8; 10]
     ensures { result ≡ name_text name }
 {
