@@ -1,5 +1,5 @@
 // Changes of one segment of the directory in the workspace.
-// Segment and index stay two numbers: `FilePlace`, which holds both, is of a crate beside this one.
+// Segment and index stay two numbers: a struct of both is no plainer, as each caller would have to make one.
 ghost use Rattle.std.specs.Prelude.{◌≡◌, ◌≤◌, [], ◌∷◌};
 ghost use Rattle.std.specs.Fn.{FnOnceTakesAtMut, FnOnceReturnsAtMut};
 ghost use Rattle.arrayvec.specs.ArrayVec.{ArrayVec, array_vec_len};

@@ -37,7 +37,8 @@ fn well_named(entry: Placed) -> bool
 impl<'a> Entries<'a> {
     ghost use Rattle.directory.specs.Entries.{entries_left};
 
-    // The first file of a name.
+    // The first file of a name. How far its start goes stays a clause: a ghost field of `Placed` would ask for a proof wherever
+    // specs/ makes one.
     pub fn find_named(mut self, name: Name) -> Option<Placed>
         ensures file { result ≡ first_named name (entries_left self.entry) }
         ensures start { IfSome result (λ p. p.start ≤ 200000000) }

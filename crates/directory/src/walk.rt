@@ -91,7 +91,7 @@ impl<'a> Iterator for Entries<'a> {
     }
 }
 
-// The same entries, each with its segment's place in the chain.
+// The same entries, each with its segment's place in the chain. An iterator of its own, since contracts speak of another list.
 #[derive(Clone, Copy)]
 pub struct ChainEntries<'a> {
     entries: Entries<'a>,

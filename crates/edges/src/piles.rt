@@ -50,7 +50,8 @@ fn lay_out_floppy(
     Ok(())
 }
 
-// The same run on a pack that lies on 50 blocks of an image of 100.
+// The same run on a pack that lies on 50 blocks of an image of 100. This function and the two below stay apart, since no trait
+// tells what a layer lies on.
 fn try_on_window(
     rt: &(impl Abort + AllocGlobal),
     bad: &[u32],

@@ -240,7 +240,7 @@ fn refused_fields(rt: HostRuntime) -> Result<(), Fail> {
     Ok(())
 }
 
-// Adds the line of field n, of an unknown tag.
+// Adds the line of field n, of an unknown tag. Its digits are worked out here, apart from the program's.
 fn push_line(lines: &mut Vec<u8>, n: u32) -> Result<(), AllocError> {
     for unit in [10_000, 1000, 100, 10, 1] {
         lines.push(b'0' + (n / unit % 10) as u8)?;

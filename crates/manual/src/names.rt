@@ -3,7 +3,7 @@ use crate::paper::{Octal, Quoted, heading};
 use codec::name::Name;
 use std::io;
 
-// Three characters, as the first of a name.
+// Three characters, as the first of a name. Apart from `encode`, which prints three words.
 fn pack(rt: &HostRuntime, characters: &[u8; 3]) -> io::Result<()> {
     let [a, b, c] = *characters;
     let text = Quoted(characters);

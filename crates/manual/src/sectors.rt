@@ -32,7 +32,7 @@ fn marked(b: u32) -> [u8; 512]
     block
 }
 
-// Writes some blocks, those of the sectors that are shown among them.
+// Writes some blocks, those of the sectors that are shown among them. One by one: in a loop each number's bound would need a proof.
 fn write_marks<D: Device>(floppy: &mut D) -> Result<(), DeviceFault> {
     (*floppy).write(0, &marked(0))?;
     (*floppy).write(1, &marked(1))?;

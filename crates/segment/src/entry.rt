@@ -98,7 +98,7 @@ fn extra_of(bytes: &[u8]) -> [u8; 64]
 }
 
 // The entry at a place, unless its status is none of the four. For our other crates: the caller has checked that all of
-// it is there, and how many extra bytes it has.
+// it is there, and how many extra bytes it has. These stay a number, which is any word until rule 5 is checked.
 #[tactic(auto, using(crate::proofs::Fields::entry_is, crate::proofs::Fields::extra_is))]
 pub fn decode_entry(bytes: &[u8], at: usize, extra: u16) -> Option<Entry>
     requires { (at + 14 + extra ≤ length bytes.now) × (extra ≤ 64) }
