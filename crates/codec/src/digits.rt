@@ -11,6 +11,7 @@ pub fn digit(n: u64, unit: u64) -> u8
 }
 
 // The last N digits of a number, with zeros in front. From the back by place: of `iter_mut().rev()` a proof knows nothing.
+#[tactic(auto, using(crate::proofs::Tens::digits_none))]
 pub fn digits<const N: usize>(n: u64) -> [u8; N]
     ensures { result ≡ digits_of N n }
 {

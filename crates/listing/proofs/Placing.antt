@@ -13,11 +13,11 @@ use Rattle.listing.specs.Listings.{plain, file_line, files_in, empties_in, file_
 use Rattle.listing.proofs.Spelled.{one_digit, digit_more}
 
 -- the length with one digit, and with one digit more
-pub length-plain-one : (n : ℕ) → n < 10 → length (plain n) ≡ 1
-length-plain-one n h = ap length (one_digit n h)
+pub one_long : (n : ℕ) → n < 10 → length (plain n) ≡ 1
+one_long n h = ap length (one_digit n h)
 
-pub length-plain_more : (n : ℕ) → 10 ≤ n → n < 2 ^ 32 → length (plain n) ≡ length (plain (n / 10)) + 1
-length-plain_more n h k = ap length (digit_more n h k) ∙ length-append (plain (n / 10)) _
+pub more_long : (n : ℕ) → 10 ≤ n → n < 2 ^ 32 → length (plain n) ≡ length (plain (n / 10)) + 1
+more_long n h k = ap length (digit_more n h k) ∙ length-append (plain (n / 10)) _
 
 pub plain_short : (n : ℕ) → n < 2 ^ 32 → length (plain n) ≤ 10
 plain_short n h = length-decimal-le 10 n (omega arith) (omega arith) (omega arith)

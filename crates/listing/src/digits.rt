@@ -31,6 +31,7 @@ pub(crate) fn right_in_five(n: u16) -> [u8; 5]
 
 // Writes a number without leading zeros at a place, and tells the place behind it. The caller has seen that there is room.
 // No `write!`, which may fail in a buffer for all that its trait says.
+#[tactic(auto, using(crate::proofs::Placing::one_long, crate::proofs::Placing::more_long))]
 pub(crate) fn put_plain(out: &mut [u8], at: usize, n: u32) -> usize
     requires { at + length (plain n) ≤ length out.old }
     ensures after { out.new ≡ written out.old at (plain n) }
