@@ -44,7 +44,7 @@ impl<'a> Entries<'a> {
         ensures chain { ChainSteps self.entry.extra self.entry.dir.now self.entry.order.now self.entry.at result }
     {
         let mut index = self.at.index;
-        // By places: over `order[place..]` each would have to be summed up again, and the place is told.
+        // By places: over `order[place..]` the place that is told would have to be summed up again.
         for place in self.at.place..self.order.len() {
             let number = self.order[place];
             let segment = segment_at(self.dir, number);

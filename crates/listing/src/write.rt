@@ -23,8 +23,8 @@ fn put_counted(out: &mut [u8], at: usize, word: &[u8], n: u32) -> usize
     put_plain(out, at + word.len(), n)
 }
 
-// Writes the last line at the start of a buffer, and tells its length. Each push to an `ArrayVec` would answer an error that
-// cannot come.
+// Writes the last line at the start of a buffer, and tells its length. An `ArrayVec` would be no plainer: text goes into it
+// by `try_extend_from_slice`, which answers an error that cannot come here.
 fn put_totals(out: &mut [u8], totals: Totals) -> usize
     requires { 49 ≤ length out.old }
     ensures after { out.new ≡ written out.old 0 (total_line totals.files totals.used totals.free) }

@@ -3,7 +3,7 @@ use crate::paper::{Octal, Quoted, heading};
 use codec::name::Name;
 use std::io;
 
-// Three characters, as the first of a name. Apart from `encode`, which prints three words.
+// Three characters, as the first of a name. One function with `encode` would be no plainer: this prints one word, and its number.
 fn pack(rt: &HostRuntime, characters: &[u8; 3]) -> io::Result<()> {
     let [a, b, c] = *characters;
     let text = Quoted(characters);

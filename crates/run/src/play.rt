@@ -41,7 +41,7 @@ pub struct Ran {
 }
 
 impl Ran {
-    // 0 where all fields have run, else the number of the stop.
+    // 0 where all fields have run, else the number of the stop. A method and no `From`, since every answer has it by this name.
     pub fn number(self) -> u8
         ensures { result ≡ end_number self.end }
     {

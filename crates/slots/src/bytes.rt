@@ -79,7 +79,7 @@ pub fn put_segment(dir: &mut [u8], k: usize, header: &Header, entries: &[Entry])
     put(dir, 1024 * (k - 1), &segment);
 }
 
-// All entries. This function and those below stay for what they are called: the entries that a segment is written with.
+// All entries. Bare slices at the calls of this and of those below would be no plainer: they would not say what is written.
 pub fn all_entries(s: &Slots) -> &[Entry]
     ensures entries { result.now ≡ s.now.items }
     ensures long { length result.now ≡ array_vec_len s.now }

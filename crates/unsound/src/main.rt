@@ -5,6 +5,7 @@
 use device::image::Image;
 use directory::pending::Pending;
 use level::check::check;
+use level::load::WORKSPACE;
 use level::lookup::{lookup, read_file};
 use std::alloc::AllocError;
 use std::io;
@@ -21,9 +22,6 @@ use outputs::{Opened, opened_outputs, remembered};
 use patches::{Patch, put_patches};
 use searches::{Search, searches};
 use volumes::{Volume, put_volume};
-
-// The bytes that a workspace has at least.
-const WORKSPACE: usize = 32_768;
 
 // The memory of a volume on so many blocks, with some words of its directory changed.
 fn changed(
@@ -90,7 +88,7 @@ fn try_outputs(rt: &HostRuntime, work: &mut [u8]) -> io::Result<()> {
     Ok(())
 }
 
-// Two functions, since a file's place and a block's last byte are printed apart.
+// As one function with `try_read`, each line that is printed would have to ask which it is.
 fn try_lookup(rt: &HostRuntime, search: &Search) -> io::Result<()> {
     let label = search.label;
     let mut memory = changed(rt, Volume::System(0), 100, search.patches)?;
