@@ -36,32 +36,6 @@ struct Lawful<'a> {
     ghost short: { segments.extra ≤ 64 },
 }
 
-// Whether a segment has so many extra bytes to an entry.
-fn has_extra(dir: &[u8], k: usize, extra: u16) -> bool
-    requires { InDirectory dir.now k }
-    ensures { result ≡ same_extra extra dir.now k }
-{
-    word_at(segment_at(dir, k), 6) == extra
-}
-
-#[tactic(auto, using(crate::proofs::Tests::some_mapped))]
-fn is_lawful(dir: &[u8], k: usize, extra: u16) -> bool
-    requires { InDirectory dir.now k }
-    ensures { result ≡ lawful_at extra dir.now k }
-{
-    count_entries(segment_at(dir, k), extra).is_some()
-}
-
-// The blocks of the entries of a segment together.
-#[tactic(auto, using(crate::proofs::Counting::on_whole, crate::proofs::Counting::blocks_one, crate::proofs::Counting::left_few))]
-fn blocks_in(dir: &[u8], k: usize, extra: u16) -> u32
-    requires { Readable extra dir.now k }
-    ensures sum { result ≡ blocks_of (entries_at extra dir.now k) }
-    ensures bound { result ≤ 4718520 }
-{
-    Entries::new(dir, &[k], extra, first_spot(0)).sum_blocks()
-}
-
 // Whether bytes from a place on are the first of others.
 #[tactic(auto, using(crate::proofs::Tests::same_found))]
 fn same_bytes(bytes: &[u8], at: usize, n: usize, others: &[u8]) -> bool
@@ -102,12 +76,26 @@ pub fn first_spot(start: u32) -> Spot
 }
 
 impl<'a> Segments<'a> {
+    // Whether a segment has so many extra bytes to an entry.
+    fn has_extra(self, k: usize) -> bool
+        requires { InDirectory self.dir.now k }
+        ensures { result ≡ same_extra self.entry.extra self.entry.dir.now k }
+    {
+        word_at(segment_at(self.dir, k), 6) == self.extra
+    }
+
+    #[tactic(auto, using(crate::proofs::Tests::some_mapped))]
+    fn is_lawful(self, k: usize) -> bool
+        requires { InDirectory self.dir.now k }
+        ensures { result ≡ lawful_at self.entry.extra self.entry.dir.now k }
+    {
+        count_entries(segment_at(self.dir, k), self.extra).is_some()
+    }
+
     fn same_extra(self) -> bool
         ensures { result ≡ every (same_extra self.entry.extra self.entry.dir.now) self.entry.order.now }
     {
-        self.order
-            .iter()
-            .all(|k| has_extra(self.dir, *k, self.extra))
+        self.order.iter().all(|k| self.has_extra(*k))
     }
 
     // Rule 5.
@@ -121,9 +109,7 @@ impl<'a> Segments<'a> {
     fn all_lawful(self) -> bool
         ensures { result ≡ every (lawful_at self.entry.extra self.entry.dir.now) self.entry.order.now }
     {
-        self.order
-            .iter()
-            .all(|k| is_lawful(self.dir, *k, self.extra))
+        self.order.iter().all(|k| self.is_lawful(*k))
     }
 
     // Rules 5 to 9, in their order.
@@ -154,6 +140,17 @@ impl<'a> Lawful<'a> {
             self.segments.extra,
             first_spot(self.segments.first),
         )
+    }
+
+    // The blocks of the entries of a segment together.
+    #[tactic(auto, using(crate::proofs::Counting::on_whole, crate::proofs::Counting::blocks_one, crate::proofs::Counting::left_few))]
+    fn blocks_in(self, k: usize) -> u32
+        requires { Readable self.segments.extra self.segments.dir.now k }
+        ensures sum { result ≡ blocks_of (entries_at self.entry.segments.extra self.entry.segments.dir.now k) }
+        ensures bound { result ≤ 4718520 }
+    {
+        let Segments { dir, extra, .. } = self.segments;
+        Entries::new(dir, &[k], extra, first_spot(0)).sum_blocks()
     }
 
     // Rule 6 of an open output.
@@ -190,7 +187,7 @@ impl<'a> Lawful<'a> {
             if word_at(segment_at(self.segments.dir, *k), 8) as u32 != at {
                 return false;
             }
-            at += blocks_in(self.segments.dir, *k, self.segments.extra);
+            at += self.blocks_in(*k);
         }
         at == blocks
     }
