@@ -46,7 +46,7 @@ impl<'a> Sound<'a> {
         6 + 2 * word_at(self.bytes, 0) as u32
     }
 
-    // Its entries along its chain.
+    // Its entries along its chain. For our other crates: the caller hands on what `chain` answered.
     pub fn entries(self, chain: &'a Chain) -> Entries<'a>
         requires { chain.now.items ≡ chain_of self.bytes.now }
         ensures entries { entries_left result ≡ placed_of self.entry.bytes.now }

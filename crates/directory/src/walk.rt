@@ -22,7 +22,7 @@ pub struct Entries<'a> {
 }
 
 impl<'a> Entries<'a> {
-    ghost use Rattle.directory.specs.Entries.{entries_left, placed_left};
+    ghost use Rattle.directory.specs.Entries.{entries_left, placed_left, StepsOn, ChainStepsOn};
 
     // For our other crates: the caller has found the segments of the chain lawful.
     pub fn new(dir: &'a [u8], order: &'a [usize], extra: u16, at: Spot) -> Entries<'a>
@@ -40,8 +40,8 @@ impl<'a> Entries<'a> {
 
     // The next entry, and the spot behind it, or none at the end of the chain.
     pub fn next_entry(self) -> Option<(Placed, Spot)>
-        ensures step { Steps self.entry.extra self.entry.dir.now self.entry.order.now self.entry.at result }
-        ensures chain { ChainSteps self.entry.extra self.entry.dir.now self.entry.order.now self.entry.at result }
+        ensures step { StepsOn self.entry result }
+        ensures chain { ChainStepsOn self.entry result }
     {
         let mut index = self.at.index;
         // By places: over `order[place..]` the place that is told would have to be summed up again.
