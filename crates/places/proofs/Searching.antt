@@ -1,8 +1,14 @@
 -- One entry more or none along the chain.
-use Rattle.std.proofs.Common.{◌≡◌, ℕ, ◌+◌, Bool, sym, inl, inr, List, [], ◌∷◌, ◌++◌, map, drop, ◌≤◌, IfSome, Some, None, Option, refl, ap, ◌∙◌}
+use Rattle.std.proofs.Common.{◌≡◌, ℕ, ◌+◌, Bool, true, false, Bor, sym, inl, inr, List, [], ◌∷◌, ◌++◌, map, drop, ◌≤◌, IfSome, Some, None, Option, refl, ap, ◌∙◌}
 use Rattle.std.proofs.lemmas.List.{map-append}
-use Rattle.std.specs.List.{find}
-use Rattle.std.specs.Iterator.{YieldsFirst}
+use Rattle.std.specs.Bool.{⊤}
+use Rattle.std.specs.Fn.{CalledAt, Mut}
+use Rattle.std.specs.Iterator.{YieldsFirst, YieldsThen}
+use Rattle.std.specs.List.{find, FoldsTo}
+use Rattle.std.specs.Option.{MatchOption}
+use Rattle.std.proofs.lemmas.Iterator.Adapters.{option_map_id}
+use Rattle.std.proofs.lemmas.Iterator.Consumers.{YieldsList-from_first}
+use Rattle.std.proofs.lemmas.Iterator.Search.{find_from_yields_List}
 use Rattle.directory.specs.declared.walk.ChainEntries.{ChainEntries}
 use Rattle.directory.specs.Entries.{chain_left}
 use Rattle.directory.proofs.Starts.{low_placed}
@@ -43,3 +49,12 @@ found q (e ∷ es) =
 pub low_found : (e f : ChainEntries) (r : Option (ℕ × Placed)) → YieldsFirst chain_left e r f → IfSome r (λ p. p.1.start ≤ 200000000)
 low_found e f (Some p) q = low_placed e p (chain_left f) q
 low_found e f None q = tt
+
+-- what `find` answers over the entries of a chain
+pub first_found : {F : Type 0} {g : Mut F (Bor (ℕ × Placed) × Unit {0}) Bool} (test : Placed → Bool) (s u : ChainEntries) (f : F) (r : Option (ℕ × Placed))
+    → (xs : List (ℕ × Placed)) × (j : F) × YieldsThen (YieldsFirst chain_left) s xs r u × FoldsTo (λ p x q. CalledAt g p x false q) f xs j × MatchOption r ⊤ (λ x. (h : F) × CalledAt g j x true h)
+    → ((x : ℕ × Placed) (b : Bool) (q : F) → CalledAt g f x b q → (q ≡ f) × (b ≡ test x.1)) → r ≡ first_passing test (chain_left s)
+first_found test s u f r d k =
+    sym (option_map_id r)
+    ∙ find_from_yields_List (λ (e : ℕ × Placed). test e.1) u f r d (YieldsList-from_first (λ x. x) chain_left (chain_left s) refl) k
+    ∙ found test (chain_left s)

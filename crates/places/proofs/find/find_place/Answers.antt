@@ -1,38 +1,28 @@
-use Rattle.std.proofs.Common.{◌≡◌, ℕ, ◌≤◌, IfSome, Some, Option, tests, rules, refl, sym, ap, ◌∙◌, subst}
+use Rattle.std.proofs.Common.{◌≡◌, ℕ, ◌≤◌, IfSome, Some, Option, tests, rules, sym, ap, ◌∙◌, subst}
 use Rattle.std.specs.Option.{option_map}
-use Rattle.std.proofs.lemmas.Iterator.Adapters.{option_map_id}
-use Rattle.std.proofs.lemmas.Iterator.Consumers.{YieldsList-from_first}
-use Rattle.std.proofs.lemmas.Iterator.Search.{find_from_yields_List}
 use Rattle.directory.specs.declared.placed.Placed.{Placed}
-use Rattle.directory.specs.Entries.{chain_left}
 use Rattle.directory.specs.Finds.{is_named}
 use Rattle.places.specs.declared.place.FilePlace.{FilePlace}
 use Rattle.places.specs.Searches.{file_told, chained_of, first_passing}
-use Rattle.places.proofs.Searching.{found, low_found}
+use Rattle.places.proofs.Searching.{first_found, low_found}
 use Rattle.places.proofs.Found.{file-found}
 use Rattle.places.proofs.find.find_place.Goals as goal
 
 pub returns-in_err-place : goal.returns-in_err-place
 unfolding chained_of
 returns-in_err-place c =
-    let es = chain_left c.new.result in
     let q : c.find.result ≡ first_passing (is_named c.args.name) (chained_of c.args.dir.bytes.now)
-    = sym (option_map_id c.find.result)
-    ∙ find_from_yields_List (λ (e : ℕ × Placed). is_named c.args.name e.1) c.find.new.self _ c.find.result c.find.ensures.ran (YieldsList-from_first (λ x. x) chain_left es refl)
-    (λ x b q k. search (rules, tests))
-    ∙ found (is_named c.args.name) es ∙ ap (first_passing (is_named c.args.name)) (c.new.ensures ∙ c.entries.ensures.chain) in
+    = first_found (is_named c.args.name) c.new.result c.find.new.self _ c.find.result c.find.ensures.ran (λ x b q k. search (rules, tests))
+    ∙ ap (first_passing (is_named c.args.name)) (c.new.ensures ∙ c.entries.ensures.chain) in
     rw c.from_residual.ensures
     (record { file = ap (option_map file_told) (sym c.in_err-place.was ∙ q) ∙ file-found c.args.dir.bytes.now c.args.name; start = tt })
 
 pub returns : goal.returns
 unfolding chained_of
 returns c =
-    let es = chain_left c.new.result in
     let q : c.find.result ≡ first_passing (is_named c.args.name) (chained_of c.args.dir.bytes.now)
-    = sym (option_map_id c.find.result)
-    ∙ find_from_yields_List (λ (e : ℕ × Placed). is_named c.args.name e.1) c.find.new.self _ c.find.result c.find.ensures.ran (YieldsList-from_first (λ x. x) chain_left es refl)
-    (λ x b q k. search (rules, tests))
-    ∙ found (is_named c.args.name) es ∙ ap (first_passing (is_named c.args.name)) (c.new.ensures ∙ c.entries.ensures.chain) in
+    = first_found (is_named c.args.name) c.new.result c.find.new.self _ c.find.result c.find.ensures.ran (λ x b q k. search (rules, tests))
+    ∙ ap (first_passing (is_named c.args.name)) (c.new.ensures ∙ c.entries.ensures.chain) in
     let low : IfSome (Some (c.in_ok-place.place, c.in_ok-place.entry)) (λ (e : ℕ × Placed). e.1.start ≤ 200000000)
     = subst (λ (r : Option (ℕ × Placed)). IfSome r (λ e. e.1.start ≤ 200000000)) c.in_ok-place.was
     (low_found c.find.ensures.ran.2.0 c.find.new.self c.find.result c.find.ensures.ran.2.2) in
