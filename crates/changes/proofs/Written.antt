@@ -32,7 +32,7 @@ module _ (dir : List ℕ) (k : ℕ) where
 
   -- one of the decoded entries
   module _ (s : Slots) (q : slot_entries s ≡ entries_in dir k) (i : ℕ) (h : i < length (entries_in dir k)) where
-    pub counted : i < s.count
+    counted : i < s.count
     counted = omega (arith, h, ap length q, length-take s.count s.entries)
 
     pub entry_same : get_or s.entries i no_entry ≡ entry_in dir k i

@@ -1,4 +1,4 @@
-// The entries of a segment as a list.
+// The entries of a segment as a list. A file apart from `bytes`, since the definitions that `bytes` cites name the struct.
 ghost use Rattle.std.specs.Prelude.{◌≤◌};
 
 use volume::entry::Entry;

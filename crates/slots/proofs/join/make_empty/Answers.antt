@@ -1,20 +1,15 @@
-use Rattle.std.proofs.Common.{ap, ◌∙◌, arith}
+use Rattle.std.proofs.Common.{ap, ◌∙◌, arith, rules}
 use Rattle.std.specs.List.{between, sum_by}
 use Rattle.volume.specs.declared.entry.Entry.{Entry}
 use Rattle.edits.specs.Entries.{empty_of}
 use Rattle.edits.specs.Edits.{run_start, run_end}
 use Rattle.slots.specs.Slots.{slot_entries}
-use Rattle.slots.proofs.Blocks.{blocks_sum, blocks_between}
+use Rattle.slots.proofs.Blocks.{blocks_sum, blocks_few}
 use Rattle.slots.proofs.Splices.{emptied_is}
 use Rattle.slots.proofs.join.make_empty.Goals as goal
 
 pub blocks_of-blocks-requires : goal.blocks_of-blocks-requires
-blocks_of-blocks-requires c =
-    let from = c.run_start-from.result in
-    let to = c.run_end-to.result in
-    let es = slot_entries c.args.s.now in
-    let same = ap (λ zs. sum_by (λ (e : Entry). e.length) (between from to zs)) c.all_entries-all.ensures.entries in
-    omega (arith, same, blocks_sum (between from to es), blocks_between es from to (omega arith))
+blocks_of-blocks-requires c = search (rules, blocks_few)
 
 pub returns-clause-entries : goal.returns-clause-entries
 returns-clause-entries c =
