@@ -4,11 +4,11 @@ use Rattle.std.specs.Option.{option_map, IsSome}
 use Rattle.std.specs.List.{AllByRecursion}
 use Rattle.std.specs.Coded.{le_prop}
 use Rattle.std.proofs.Math.Logic.{∥∥₁_elim}
-use Rattle.arrayvec.specs.ArrayVec.{ArrayVec}
 use Rattle.std.proofs.lemmas.Bool.Decides.{nat_tests}
 use Rattle.codec.specs.Words.{word_at}
 use Rattle.segment.proofs.Rule4 as four
-use Rattle.segment.specs.Chains.{next_of, chain_from}
+use Rattle.segment.specs.declared.order.Chain.{Chain}
+use Rattle.segment.specs.Chains.{next_of, chain_from, order_of}
 use Rattle.segment.specs.Directories.{chain_of}
 use Rattle.directory.specs.Walks.{spot, Readable, OnWay}
 use Rattle.directory.specs.Rules.{in_use, every, extra_sound, lawful_at, broken_along, broken_by, broken_rule}
@@ -80,6 +80,6 @@ module _ (dir : List ℕ) (s : SoundBytes dir) where
       (on_chain found.0 found.1 (four.chain_inside (word_at dir 4) (next_of dir) (word_at dir 4) 1 found.0 (sym found.1)) found-few)
 
 -- so its chain is found
-pub chain_there : (dir : List ℕ) → ∥ SoundBytes dir ∥₁ → (o : Option (ArrayVec ℕ)) → option_map (λ c. c.items) o ≡ chain_from (word_at dir 4) (word_at dir 4) (next_of dir) 1 → IsSome o
+pub chain_there : (dir : List ℕ) → ∥ SoundBytes dir ∥₁ → (o : Option Chain) → option_map order_of o ≡ chain_from (word_at dir 4) (word_at dir 4) (next_of dir) 1 → IsSome o
 chain_there dir s (Some c) q = refl
 chain_there dir s None q = absurd (let z : 1 ≤ 0 = ∥∥₁_elim s le_prop (λ t. absurd (no_chain dir t q)) in omega arith)

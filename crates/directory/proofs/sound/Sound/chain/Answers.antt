@@ -2,8 +2,7 @@ use Rattle.std.proofs.Common.{◌≡◌, ℕ, ◌+◌, ◌*◌, ◌≤◌, List,
 use Rattle.std.specs.Option.{option_map}
 use Rattle.std.specs.Coded.{×_prop, le_prop}
 use Rattle.std.proofs.Math.Logic.{∥∥₁_elim}
-use Rattle.arrayvec.specs.ArrayVec.{ArrayVec}
-use Rattle.segment.specs.Chains.{next_of, chain_from}
+use Rattle.segment.specs.Chains.{next_of, chain_from, order_of}
 use Rattle.segment.specs.Directories.{chain_of}
 use Rattle.codec.specs.Words.{word_at}
 use Rattle.directory.specs.Walks.{spot, OnWay, OnWay-prop}
@@ -24,13 +23,14 @@ unwrap-requires c =
 pub returns : goal.returns
 returns c =
     let dir = c.args.self.bytes.now in
-    let ks : List ℕ = c.unwrap.result.items in
+    let ks : List ℕ = order_of c.unwrap.result in
     let order : ks ≡ chain_of dir
     = chain_is dir ks
-    (ap (option_map (λ (v : ArrayVec ℕ). v.items)) (sym c.unwrap.ensures) ∙ c.chain_of.ensures.order ∙ ap (λ (z : ℕ). chain_from z z (next_of dir) 1) c.word_at.ensures) in
+    (ap (option_map order_of) (sym c.unwrap.ensures) ∙ c.chain_of.ensures.order ∙ ap (λ (z : ℕ). chain_from z z (next_of dir) 1) c.word_at.ensures) in
     record {
       order = order;
-      count = ∥∥₁_elim c.args.self.sound le_prop (λ s. subst (λ (js : List ℕ). length js ≤ 31) (sym order) (chain_few dir s));
+      count = c.unwrap.result.few;
+      few = ∥∥₁_elim c.args.self.sound le_prop (λ s. subst (λ (js : List ℕ). length js ≤ 31) (sym order) (chain_few dir s));
       way =
           ∥∥₁_elim c.args.self.sound (OnWay-prop (word_at dir 6) dir ks (spot 0 0 (6 + 2 * word_at dir 0)))
           (λ s. subst (λ (js : List ℕ). OnWay (word_at dir 6) dir js (spot 0 0 (6 + 2 * word_at dir 0))) (sym order) (chain_way dir s));
