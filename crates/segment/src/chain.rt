@@ -5,9 +5,8 @@ ghost use Rattle.std.specs.Option.{option_map};
 ghost use Rattle.segment.specs.Chains.{InDirectory, segment_at, next_of, chain_from, order_of};
 ghost use Rattle.segment.specs.Rule4.{RuleFour};
 
-use codec::words::word_at;
-
 pub use crate::order::Chain;
+use codec::words::word_at;
 
 // The bytes of a segment. For our other crates, as those below: the caller has checked that the workspace holds it.
 // Directory and number stay two parameters, since the directory is borrowed anew around each write.
