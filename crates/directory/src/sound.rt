@@ -32,6 +32,7 @@ impl<'a> Sound<'a> {
     }
 
     // Its segments in chain order.
+    #[tactic(auto, using(crate::proofs::Sounding::chain_there, crate::proofs::Sounding::order_found, crate::proofs::Breaking::few_taken))]
     pub fn chain(self) -> Chain
         ensures order { order_of result ≡ chain_of self.entry.bytes.now }
         ensures count { result.count ≤ 31 }
