@@ -52,9 +52,10 @@ impl<'a> Entries<'a> {
             let at = entry_start(index, self.extra);
             if word_at(segment, at) != END {
                 let words = EntryWords::new(segment, at);
+                let status = words.status()?;
                 let length = words.length();
                 let entry = Placed {
-                    status: words.status()?,
+                    status,
                     name: words.name(),
                     length,
                     date: words.date(),
