@@ -3,10 +3,12 @@ use Rattle.std.specs.Prelude.{ℕ, ◌*◌, List, [], ◌∷◌, drop}
 use Rattle.device.specs.declared.level.Level.{Level}
 use Rattle.device.specs.Images.{image_blocks}
 
--- A level table as a value: the record of the whole device, and those of the mounted containers, each inside the one before.
+-- A level table as a value: the record of the whole device, those of the mounted containers, each inside the one before, and the records
+-- behind them, which no call shows.
 pub record Table : Type 0 where
   pub whole : Level
   pub mounted : List Level
+  pub spare : List Level
 
 -- The references lent to a device, the list of bad blocks that it was given, the bytes behind its last block, and the level tables
 -- of its layers, the outermost first.

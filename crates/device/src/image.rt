@@ -57,7 +57,8 @@ impl<'a, 'b> Image<'a, 'b> {
         self.memory
     }
 
-    // Whether block b is there, and good.
+    // Whether block b is there, and good. Always inlined: each read and write of a block asks it.
+    #[inline(always)]
     fn check(&self, b: u32) -> Result<(), DeviceFault>
         ensures answer { result ≡ answered (fetch (shown (image self.now.memory.now self.now.bad.now)) b) }
         ensures inside { OnOk result (b < image_blocks self.now.memory.now) }

@@ -1,5 +1,5 @@
 -- The first broken rule, by where the test ends.
-use Rattle.std.proofs.Common.{◌≡◌, ℕ, ◌+◌, ◌*◌, ◌≤◌, Bool, true, false, List, Some, None, Option, sym, ap, ◌∙◌, arith}
+use Rattle.std.proofs.Common.{◌≡◌, ℕ, ◌+◌, ◌*◌, ◌≤◌, Bool, true, false, List, length, take, Some, None, Option, sym, ap, ◌∙◌, arith, length-take}
 use Rattle.std.specs.List.{AllByRecursion}
 use Rattle.std.proofs.ByRecursion.{All-weaker}
 use Rattle.std.proofs.lemmas.Bool.{cond-true, cond-false}
@@ -35,3 +35,6 @@ module _ (dir : List ℕ) (v : ℕ) (o : Option Pending) (h s : ℕ) (hp : h ≡
 -- segments of 1 to h lie in a directory of at least h
 pub in_range : (n h : ℕ) → 1024 * h ≤ n → (ks : List ℕ) → AllByRecursion (λ k. (1 ≤ k) × (k ≤ h)) ks → AllByRecursion (λ k. (1 ≤ k) × (1024 * k ≤ n)) ks
 in_range n h l ks a = All-weaker (λ k. (1 ≤ k) × (k ≤ h)) (λ k. (1 ≤ k) × (1024 * k ≤ n)) (λ k p. (p.0, omega (arith, p.1))) ks a
+
+pub few_taken : (n : ℕ) (ks : List ℕ) → length (take n ks) ≤ n
+few_taken n ks = omega (arith, length-take n ks)

@@ -1,8 +1,23 @@
 -- One entry more or none, for each question.
-use Rattle.std.proofs.Common.{◌≡◌, ◌+◌, Bool, true, false, cond, ◌&&◌, List, [], ◌∷◌, length, refl, ap, ◌∙◌, arith}
+use Rattle.std.proofs.Common.{◌≡◌, ◌+◌, Bool, true, false, cond, ◌&&◌, List, [], ◌∷◌, length, Some, None, refl, ap, ◌∙◌, arith}
 use Rattle.std.specs.List.{filter}
+use Rattle.std.proofs.lemmas.Bool.{cond-true, cond-false}
+use Rattle.codec.specs.declared.name.Name.{Name}
 use Rattle.directory.specs.declared.placed.Placed.{Placed}
-use Rattle.directory.specs.Finds.{is_tentative, tentatives, blocks_in, alone, all_apart}
+use Rattle.directory.specs.Finds.{is_tentative, is_named, first_named, tentatives, blocks_in, alone, all_apart}
+
+module _ (n : Name) (l : List Placed) {p : Placed} {r : List Placed} (e : l ≡ p ∷ r) where
+  pub named : is_named n p ≡ true → first_named n l ≡ Some p
+  unfolding first_named
+  named h = ap (first_named n) e ∙ cond-true _ _ _ h
+
+  pub not_named : is_named n p ≡ false → first_named n l ≡ first_named n r
+  unfolding first_named
+  not_named h = ap (first_named n) e ∙ cond-false _ _ _ h
+
+pub named_none : (n : Name) (l : List Placed) → l ≡ [] → first_named n l ≡ None
+unfolding first_named
+named_none n l e = ap (first_named n) e
 
 -- the tentative entries, picked out
 pub tentatives_filtered : (l : List Placed) → length (filter is_tentative l) ≡ tentatives l

@@ -4,13 +4,13 @@ use Rattle.std.specs.Option.{option_map, IsSome}
 use Rattle.std.specs.List.{AllByRecursion}
 use Rattle.std.specs.Coded.{le_prop}
 use Rattle.std.proofs.Math.Logic.{∥∥₁_elim}
-use Rattle.arrayvec.specs.ArrayVec.{ArrayVec}
 use Rattle.std.proofs.lemmas.Bool.Decides.{nat_tests}
 use Rattle.codec.specs.Words.{word_at}
 use Rattle.segment.proofs.Rule4 as four
-use Rattle.segment.specs.Chains.{next_of, chain_from}
+use Rattle.segment.specs.declared.order.Chain.{Chain}
+use Rattle.segment.specs.Chains.{next_of, chain_from, order_of}
 use Rattle.segment.specs.Directories.{chain_of}
-use Rattle.directory.specs.Walks.{spot, Readable, OnWay}
+use Rattle.directory.specs.Walks.{spot, Readable, OnWay, OnWay-prop}
 use Rattle.directory.specs.Rules.{in_use, every, extra_sound, lawful_at, broken_along, broken_by, broken_rule}
 use Rattle.directory.specs.Sounds.{SoundBytes}
 use Rattle.directory.proofs.Tests.{all_both}
@@ -79,7 +79,20 @@ module _ (dir : List ℕ) (s : SoundBytes dir) where
       subst (λ (ks : List ℕ). OnWay (word_at dir 6) dir ks (spot 0 0 (6 + 2 * word_at dir 0))) (chain_is dir found.0 found.1)
       (on_chain found.0 found.1 (four.chain_inside (word_at dir 4) (next_of dir) (word_at dir 4) 1 found.0 (sym found.1)) found-few)
 
--- so its chain is found
-pub chain_there : (dir : List ℕ) → ∥ SoundBytes dir ∥₁ → (o : Option (ArrayVec ℕ)) → option_map (λ c. c.items) o ≡ chain_from (word_at dir 4) (word_at dir 4) (next_of dir) 1 → IsSome o
-chain_there dir s (Some c) q = refl
-chain_there dir s None q = absurd (let z : 1 ≤ 0 = ∥∥₁_elim s le_prop (λ t. absurd (no_chain dir t q)) in omega arith)
+-- what is found along h segments, h the word H of a sound directory: its chain
+module _ (dir : List ℕ) (s : ∥ SoundBytes dir ∥₁) (h : ℕ) (e : h ≡ word_at dir 4) where
+  by_word : {o : Option (List ℕ)} → o ≡ chain_from h h (next_of dir) 1 → o ≡ chain_from (word_at dir 4) (word_at dir 4) (next_of dir) 1
+  by_word q = q ∙ ap (λ (z : ℕ). chain_from z z (next_of dir) 1) e
+
+  pub chain_there : (o : Option Chain) → option_map order_of o ≡ chain_from h h (next_of dir) 1 → IsSome o
+  chain_there (Some c) q = refl
+  chain_there None q = absurd (let z : 1 ≤ 0 = ∥∥₁_elim s le_prop (λ t. absurd (no_chain dir t (by_word q))) in omega arith)
+
+  module _ (ks : List ℕ) (q : Some ks ≡ chain_from h h (next_of dir) 1) where
+    pub order_found : ks ≡ chain_of dir
+    order_found = chain_is dir ks (by_word q)
+
+    pub way_found : OnWay (word_at dir 6) dir ks (spot 0 0 (6 + 2 * word_at dir 0))
+    way_found =
+        ∥∥₁_elim s (OnWay-prop (word_at dir 6) dir ks (spot 0 0 (6 + 2 * word_at dir 0)))
+        (λ t. subst (λ (js : List ℕ). OnWay (word_at dir 6) dir js (spot 0 0 (6 + 2 * word_at dir 0))) (sym order_found) (chain_way dir t))

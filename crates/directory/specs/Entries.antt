@@ -1,5 +1,5 @@
 -- What an iterator over the entries of a directory has left.
-use Rattle.std.specs.Prelude.{ℕ, List, Option}
+use Rattle.std.specs.Prelude.{◌≡◌, ℕ, List, Option}
 use Rattle.directory.specs.declared.placed.Placed.{Placed}
 use Rattle.directory.specs.declared.walk.Entries.{Entries}
 use Rattle.directory.specs.declared.walk.ChainEntries.{ChainEntries}
@@ -15,6 +15,10 @@ placed_left e = chained e.extra e.dir.now e.order.now e.at
 
 abbrev pub chain_left : ChainEntries → List (ℕ × Placed)
 chain_left e = placed_left e.entries
+
+-- the directory, the chain and the extra bytes that an iterator walks by, and the spot that it has come to
+abbrev pub WalksBy : Entries → List ℕ → List ℕ → ℕ → Spot → Type 0
+WalksBy e dir ks x s = (e.dir.now ≡ dir) × (e.order.now ≡ ks) × (e.extra ≡ x) × (e.at ≡ s)
 
 -- one step from where an iterator has come to
 abbrev pub StepsOn : Entries → Option (Placed × Spot) → Type 0

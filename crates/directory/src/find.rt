@@ -1,6 +1,6 @@
 // What is asked of the entries in chain order.
 ghost use Rattle.std.specs.Prelude.{◌≡◌, ◌+◌, ◌*◌, ◌≤◌, length, IfSome};
-ghost use Rattle.directory.specs.Finds.{is_file, is_tentative, is_named, first_named, tentatives, blocks_in, well_named, all_well_named, alone, all_apart};
+ghost use Rattle.directory.specs.Finds.{is_file, is_tentative, same_name, is_named, first_named, tentatives, blocks_in, well_named, all_well_named, alone, all_apart};
 
 use crate::placed::Placed;
 use crate::walk::Entries;
@@ -20,11 +20,18 @@ pub fn is_tentative(entry: Placed) -> bool
     entry.status.is_tentative()
 }
 
+// Whether two names are one. Word by word, since rule 9 asks it of each two files, and by `==` that takes half as long again.
+fn same_name(a: Name, b: Name) -> bool
+    ensures { result ≡ same_name a b }
+{
+    a.first == b.first && a.second == b.second && a.kind == b.kind
+}
+
 // Whether an entry is the file of a name.
 pub fn is_named(name: Name, entry: Placed) -> bool
     ensures { result ≡ is_named name entry }
 {
-    is_file(entry) && name == entry.name
+    is_file(entry) && same_name(name, entry.name)
 }
 
 fn well_named(entry: Placed) -> bool
@@ -38,12 +45,18 @@ impl<'a> Entries<'a> {
     ghost use Rattle.directory.specs.Entries.{entries_left};
 
     // The first file of a name. How far its start goes stays a clause: a ghost field of `Placed` would ask for a proof wherever
-    // specs/ makes one.
-    pub fn find_named(mut self, name: Name) -> Option<Placed>
+    // specs/ makes one. A loop and no `find`, by which each step of rule 9 takes a quarter more.
+    #[tactic(auto, using(crate::proofs::Finding::named, crate::proofs::Finding::not_named, crate::proofs::Finding::named_none))]
+    pub fn find_named(self, name: Name) -> Option<Placed>
         ensures file { result ≡ first_named name (entries_left self.entry) }
         ensures start { IfSome result (λ p. p.start ≤ 200000000) }
     {
-        self.find(|entry| is_named(name, *entry))
+        for entry in self {
+            if is_named(name, entry) {
+                return Some(entry);
+            }
+        }
+        None
     }
 
     // How many entries are tentative.

@@ -1,6 +1,7 @@
 // A sound directory: its chain, its entries and its files.
 ghost use Rattle.std.specs.Prelude.{◌≡◌, ◌+◌, ◌*◌, ◌≤◌, length, IfSome};
 ghost use Rattle.codec.specs.Words.{word_at};
+ghost use Rattle.segment.specs.Chains.{order_of};
 ghost use Rattle.segment.specs.Directories.{chain_of};
 ghost use Rattle.directory.specs.Walks.{spot, chained, OnWay};
 ghost use Rattle.directory.specs.Sounds.{SoundBytes, placed_of, file_of};
@@ -31,10 +32,12 @@ impl<'a> Sound<'a> {
     }
 
     // Its segments in chain order.
+    #[tactic(auto, using(crate::proofs::Sounding::chain_there, crate::proofs::Sounding::order_found, crate::proofs::Breaking::few_taken))]
     pub fn chain(self) -> Chain
-        ensures order { result.items ≡ chain_of self.entry.bytes.now }
-        ensures count { length result.items ≤ 31 }
-        ensures way { OnWay (word_at self.entry.bytes.now 6) self.entry.bytes.now result.items (spot 0 0 (6 + 2 * word_at self.entry.bytes.now 0)) }
+        ensures order { order_of result ≡ chain_of self.entry.bytes.now }
+        ensures count { result.count ≤ 31 }
+        ensures few { length (order_of result) ≤ 31 }
+        ensures way { OnWay (word_at self.entry.bytes.now 6) self.entry.bytes.now (order_of result) (spot 0 0 (6 + 2 * word_at self.entry.bytes.now 0)) }
     {
         chain_of(self.bytes, word_at(self.bytes, 4) as usize).unwrap()
     }
@@ -48,7 +51,7 @@ impl<'a> Sound<'a> {
 
     // Its entries along its chain. For our other crates: the caller hands on what `chain` answered.
     pub fn entries(self, chain: &'a Chain) -> Entries<'a>
-        requires { chain.now.items ≡ chain_of self.bytes.now }
+        requires { order_of chain.now ≡ chain_of self.bytes.now }
         ensures entries { entries_left result ≡ placed_of self.entry.bytes.now }
         ensures chain { placed_left result ≡ chained (word_at self.entry.bytes.now 6) self.entry.bytes.now (chain_of self.entry.bytes.now) (spot 0 0 (6 + 2 * word_at self.entry.bytes.now 0)) }
     {

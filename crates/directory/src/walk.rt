@@ -22,13 +22,14 @@ pub struct Entries<'a> {
 }
 
 impl<'a> Entries<'a> {
-    ghost use Rattle.directory.specs.Entries.{entries_left, placed_left, StepsOn, ChainStepsOn};
+    ghost use Rattle.directory.specs.Entries.{entries_left, placed_left, WalksBy, StepsOn, ChainStepsOn};
 
     // For our other crates: the caller has found the segments of the chain lawful.
     pub fn new(dir: &'a [u8], order: &'a [usize], extra: u16, at: Spot) -> Entries<'a>
         requires { OnWay extra dir.now order.now at }
         ensures entries { entries_left result ≡ left extra dir.now order.now at }
         ensures chain { placed_left result ≡ chained extra dir.now order.now at }
+        ensures given { WalksBy result dir.now order.now extra at }
     {
         Entries {
             dir,
@@ -51,9 +52,10 @@ impl<'a> Entries<'a> {
             let at = entry_start(index, self.extra);
             if word_at(segment, at) != END {
                 let words = EntryWords::new(segment, at);
+                let status = words.status()?;
                 let length = words.length();
                 let entry = Placed {
-                    status: words.status()?,
+                    status,
                     name: words.name(),
                     length,
                     date: words.date(),

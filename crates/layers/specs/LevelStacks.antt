@@ -63,10 +63,14 @@ pub mounted_whole : (ls : List Level) (k : Stack) → Whole k.bottom → Whole (
 mounted_whole [] k w = w
 mounted_whole (l ∷ ls) k w = mounted_whole ls (over (window l.start l.length) k) w
 
-pub levels_limit : (t : Table) (h : Held) → length (shown (over_levels t h.stack)) ≤ 8388608
-levels_limit t h =
+-- levels show no more blocks than there are below
+pub levels_fewer : (t : Table) (k : Stack) → length (shown (over_levels t k)) ≤ length (shown k)
+levels_fewer t k =
     omega
-    (arith, mounted_fewer t.mounted (over (exactly t.whole.length) h.stack), length-exactly t.whole.length (shown h.stack), exact_fewer t.whole.length (length (shown h.stack)), h.limit)
+    (arith, mounted_fewer t.mounted (over (exactly t.whole.length) k), length-exactly t.whole.length (shown k), exact_fewer t.whole.length (length (shown k)))
+
+pub levels_limit : (t : Table) (h : Held) → length (shown (over_levels t h.stack)) ≤ 8388608
+levels_limit t h = omega (arith, levels_fewer t h.stack, h.limit)
 
 abbrev pub held_levels : Table → Held → Held
 held_levels t h = record { stack = over_levels t h.stack; whole = mounted_whole t.mounted (over (exactly t.whole.length) h.stack) h.whole; limit = levels_limit t h }

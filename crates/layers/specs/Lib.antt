@@ -1,4 +1,5 @@
 pub mod Parts
+pub mod Records
 pub mod Windows
 pub mod Nested
 pub mod Mounts

@@ -28,7 +28,7 @@ impl LevelFault {
 }
 
 // Record 0 is the whole device, and the `depth` records after it are the mounted levels, each inside the level around it.
-#[derive(Drop)]
+#[derive(Clone, Copy)]
 pub struct LevelTable {
     // A rule of the project: eight records, the whole device first.
     records: [Level; 8],
@@ -36,16 +36,21 @@ pub struct LevelTable {
 }
 
 impl Model for LevelTable {
-    ghost use Rattle.std.specs.Prelude.{◌≡◌, ◌≤◌, length, take, drop, slice_index_or};
+    ghost use Rattle.std.specs.Prelude.{◌≡◌, ◌≤◌, ◌∷◌, ◌++◌, length, take, drop, slice_index_or};
     ghost use Rattle.device.specs.Fixed.{Table};
     ghost use Rattle.layers.specs.Nested.{LevelsInside};
     ghost use Rattle.layers.specs.Mounts.{level};
+    ghost use Rattle.layers.specs.Records.{records_back, depth_back};
 
     ghost Value = { Table };
 
-    ghost view = { λ t. record { whole = slice_index_or t.records 0 (level 0 0); mounted = take t.depth (drop 1 t.records) } };
+    ghost view = { λ t. record { whole = slice_index_or t.records 0 (level 0 0); mounted = take t.depth (drop 1 t.records); spare = drop t.depth (drop 1 t.records) } };
 
     ghost invariant = { λ t. (length t.records ≡ 8) × (t.depth ≤ 7) × LevelsInside (slice_index_or t.records 0 (level 0 0)) (take t.depth (drop 1 t.records)) };
+
+    ghost inverse = { λ v. record { records = v.whole ∷ v.mounted ++ v.spare; depth = length v.mounted } };
+
+    ghost inverse_ok = { λ t h i. record { records = records_back t.records t.depth (level 0 0) h.0 i; depth = depth_back t.records t.depth h.0 h.1 i } };
 }
 
 // Sets a record that is lent.

@@ -1,7 +1,7 @@
 -- The chain of segments, link by link.
-use Rattle.std.proofs.Common.{◌≡◌, ℕ, zero, suc, ◌-◌, ◌<◌, ◌≤◌, true, ◌||◌, eqb, ltb, ◌⊎◌, List, [], ◌∷◌, ◌++◌, length, Some, None, Option, sym, refl, ap, ◌∙◌, inl, inr, arith}
+use Rattle.std.proofs.Common.{◌≡◌, ℕ, zero, suc, ◌+◌, ◌-◌, ◌<◌, ◌≤◌, true, ◌||◌, eqb, ltb, ◌⊎◌, List, [], ◌∷◌, ◌++◌, length, take, set, Some, None, Option, sym, refl, ap, ◌∙◌, inl, inr, arith}
 use Rattle.std.specs.Option.{option_map}
-use Rattle.std.proofs.lemmas.List.{append_assoc, append-nil, length-append}
+use Rattle.std.proofs.lemmas.List.{append_assoc, append-nil, take_more_set}
 use Rattle.std.proofs.lemmas.Bool.{eq-eqb, ne_eqb, lt-ltb, le-ltb, or_left, or_right, or_from}
 use Rattle.segment.specs.Chains.{chain_from}
 
@@ -30,27 +30,28 @@ module _ (h : ℕ) (next : ℕ → ℕ) where
   unfolding chain_from
   chain_long n k z p = rw (z, ne_eqb k 0 p)
 
-  -- some segments have been met, and k comes next
-  abbrev pub Met : List ℕ → ℕ → Type 0
-  Met ks k = option_map (λ ys. ks ++ ys) (chain_from (h - length ks) h next k) ≡ chain_from h h next 1
+  -- the first i of some segments have been met, and k comes next
+  abbrev pub Met : List ℕ → ℕ → ℕ → Type 0
+  Met ks i k = option_map (λ ys. take i ks ++ ys) (chain_from (h - i) h next k) ≡ chain_from h h next 1
 
-  module _ (ks : List ℕ) (k : ℕ) (m : Met ks k) where
-    left : {r : Option (List ℕ)} → chain_from (h - length ks) h next k ≡ r → option_map (λ ys. ks ++ ys) r ≡ chain_from h h next 1
-    left e = ap (option_map (λ ys. ks ++ ys)) (sym e) ∙ m
+  module _ (ks : List ℕ) (i k : ℕ) (m : Met ks i k) where
+    left : {r : Option (List ℕ)} → chain_from (h - i) h next k ≡ r → option_map (λ ys. take i ks ++ ys) r ≡ chain_from h h next 1
+    left e = ap (option_map (λ ys. take i ks ++ ys)) (sym e) ∙ m
 
-    pub met_bad : length ks < h → (k ≡ 0) ⊎ ((k ≡ 0 → ⊥) × (h < k)) → None ≡ chain_from h h next 1
-    met_bad l (inl z) = left (chain_bad (h - length ks) k (omega arith) (or_left (eqb k 0) (ltb h k) (eq-eqb k 0 z)))
-    met_bad l (inr z) = left (chain_bad (h - length ks) k (omega arith) (or_right (eqb k 0) (ltb h k) (lt-ltb h k z.1)))
+    pub met_bad : i < h → (k ≡ 0) ⊎ ((k ≡ 0 → ⊥) × (h < k)) → None ≡ chain_from h h next 1
+    met_bad l (inl z) = left (chain_bad (h - i) k (omega arith) (or_left (eqb k 0) (ltb h k) (eq-eqb k 0 z)))
+    met_bad l (inr z) = left (chain_bad (h - i) k (omega arith) (or_right (eqb k 0) (ltb h k) (lt-ltb h k z.1)))
 
-    pub met_long : length ks ≡ h → (k ≡ 0 → ⊥) → None ≡ chain_from h h next 1
-    met_long l p = left (chain_long (h - length ks) k (omega arith) p)
+    pub met-long : i ≡ h → (k ≡ 0 → ⊥) → None ≡ chain_from h h next 1
+    met-long l p = left (chain_long (h - i) k (omega arith) p)
 
-    pub met_all : length ks ≡ h → k ≡ 0 → Some ks ≡ chain_from h h next 1
-    met_all l e = ap Some (sym (append-nil ks)) ∙ left (chain_end (h - length ks) k (omega arith) e)
+    pub met_all : i ≡ h → k ≡ 0 → Some (take h ks) ≡ chain_from h h next 1
+    met_all l e =
+        ap (λ (n : ℕ). Some (take n ks)) (sym l) ∙ ap Some (sym (append-nil (take i ks))) ∙ left (chain_end (h - i) k (omega arith) e)
 
-    pub met_more : length ks < h → (k ≡ 0 → ⊥) → k ≤ h → Met (ks ++ k ∷ []) (next k)
-    met_more l p q =
-        let e : h - length ks - 1 ≡ h - length (ks ++ k ∷ []) = simp length-append (omega arith) in
-        let one : chain_from (h - length ks) h next k ≡ option_map (λ ys. k ∷ ys) (chain_from (h - length (ks ++ k ∷ [])) h next (next k))
-        = chain_more (h - length ks) k (omega arith) p q ∙ ap (λ n. option_map (λ ys. k ∷ ys) (chain_from n h next (next k))) e in
-        sym (one-before ks k _) ∙ left one
+    pub met_more : i < h → i < length ks → (k ≡ 0 → ⊥) → k ≤ h → Met (set ks i k) (i + 1) (next k)
+    met_more l f p q =
+        let e : h - i - 1 ≡ h - (i + 1) = omega arith in
+        let one : chain_from (h - i) h next k ≡ option_map (λ ys. k ∷ ys) (chain_from (h - (i + 1)) h next (next k))
+        = chain_more (h - i) k (omega arith) p q ∙ ap (λ n. option_map (λ ys. k ∷ ys) (chain_from n h next (next k))) e in
+        simp (take_more_set ks i k f) (sym (one-before (take i ks) k _) ∙ left one)

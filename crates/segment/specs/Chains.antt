@@ -2,6 +2,7 @@
 use Rattle.std.specs.Prelude.{ℕ, zero, suc, ◌+◌, ◌-◌, ◌*◌, ◌≤◌, cond, ◌||◌, List, [], ◌∷◌, length, take, drop, Some, None, Option, ◌==◌, nat_lt}
 use Rattle.std.specs.Option.{option_map}
 use Rattle.codec.specs.Words.{word_at}
+use Rattle.segment.specs.declared.order.Chain.{Chain}
 
 -- the bytes of segment k, counted from 1
 abbrev pub segment_at : List ℕ → ℕ → List ℕ
@@ -16,6 +17,10 @@ unfoldable pub chain_from : ℕ → ℕ → (ℕ → ℕ) → ℕ → Option (Li
 chain_from zero h next k = cond (k == 0) (Some []) None
 chain_from (suc n) h next k =
     cond (k == 0 || nat_lt h k) None (option_map (λ ks. k ∷ ks) (chain_from n h next (next k)))
+
+-- the segments of a chain, in its order
+abbrev pub order_of : Chain → List ℕ
+order_of c = take c.count c.order
 
 -- segment k is in the directory
 abbrev pub InDirectory : List ℕ → ℕ → Type 0

@@ -2,14 +2,11 @@
 ghost use Rattle.std.specs.Prelude.{◌≡◌, ◌*◌, ◌≤◌, length, IfSome};
 ghost use Rattle.std.specs.List.{AllByRecursion};
 ghost use Rattle.std.specs.Option.{option_map};
-ghost use Rattle.segment.specs.Chains.{InDirectory, segment_at, next_of, chain_from};
+ghost use Rattle.segment.specs.Chains.{InDirectory, segment_at, next_of, chain_from, order_of};
 ghost use Rattle.segment.specs.Rule4.{RuleFour};
 
-use arrayvec::ArrayVec;
+pub use crate::order::Chain;
 use codec::words::word_at;
-
-// The segments in chain order.
-pub type Chain = ArrayVec<usize, 31>;
 
 // The bytes of a segment. For our other crates, as those below: the caller has checked that the workspace holds it.
 // Directory and number stay two parameters, since the directory is borrowed anew around each write.
@@ -18,7 +15,8 @@ pub fn segment_at(dir: &[u8], k: usize) -> &[u8; 1024]
     ensures bytes { result.now ≡ segment_at dir.now k }
 {
     let from = 1024 * (k - 1);
-    dir[from..].first_chunk().unwrap()
+    // cut to length first, so that no test of the length is left when it runs
+    dir[from..from + 1024].first_chunk().unwrap()
 }
 
 // The segment after one, or 0 at the end of the chain.
@@ -31,25 +29,29 @@ pub fn next_of(dir: &[u8], k: usize) -> usize
 }
 
 // The chain from segment 1, unless it leaves 1 to `highest`, or ends sooner or later than after so many segments.
-#[tactic(auto, using(crate::proofs::Chains::met_bad, crate::proofs::Chains::met_long, crate::proofs::Chains::met_all, crate::proofs::Chains::met_more))]
+#[tactic(auto, using(crate::proofs::Chains::met_bad, crate::proofs::Chains::met_all, crate::proofs::Chains::met_more))]
 pub fn chain_of(dir: &[u8], highest: usize) -> Option<Chain>
     requires { (highest ≤ 31) × (1024 * highest ≤ length dir.now) }
-    ensures order { option_map (λ c. c.items) result ≡ chain_from highest highest (next_of dir.now) 1 }
-    ensures inside { IfSome result (λ c. (length c.items ≡ highest) × AllByRecursion (λ k. (1 ≤ k) × (k ≤ highest)) c.items) }
+    ensures order { option_map order_of result ≡ chain_from highest highest (next_of dir.now) 1 }
+    ensures inside { IfSome result (λ c. (c.count ≡ highest) × AllByRecursion (λ k. (1 ≤ k) × (k ≤ highest)) (order_of c)) }
+    ensures long { IfSome result (λ c. length (order_of c) ≡ highest) }
 {
-    let mut chain = ArrayVec::new();
+    let mut order = [0; 31];
     let mut k = 1;
-    for _ in 0..highest {
+    for i in 0..highest {
         if k == 0 || k > highest {
             return None;
         }
-        chain.push(k);
+        order[i] = k;
         k = next_of(dir, k);
     }
     if k != 0 {
         return None;
     }
-    Some(chain)
+    Some(Chain {
+        count: highest,
+        order,
+    })
 }
 
 // Rule 4 holds exactly when a chain is found.

@@ -3,4 +3,5 @@
 
 pub mod chain;
 pub mod entry;
+mod order;
 pub mod walk;

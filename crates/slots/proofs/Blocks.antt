@@ -1,5 +1,5 @@
 -- The blocks of entries together.
-use Rattle.std.proofs.Common.{◌≡◌, ℕ, ◌+◌, ◌≤◌, List, [], ◌∷◌, ◌++◌, take, drop, sym, ap, ◌∙◌, arith}
+use Rattle.std.proofs.Common.{◌≡◌, ℕ, ◌+◌, ◌<◌, ◌≤◌, List, [], ◌∷◌, ◌++◌, take, drop, sym, ap, ◌∙◌, arith}
 use Rattle.std.specs.List.{between, sum_by}
 use Rattle.std.proofs.lemmas.List.Edits.{split_between}
 use Rattle.std.proofs.lemmas.List.Sums.{sum_by-cons}
@@ -21,3 +21,8 @@ blocks_between es i j h =
       blocks_append (take i es) (between i j es ++ drop j es),
       blocks_append (between i j es) (drop j es),
     )
+
+-- where all have fewer than 65,536 blocks, so has a part
+pub blocks_few : (es zs : List Entry) (i j : ℕ) → zs ≡ es → i ≤ j → blocks_of es < 65536 → sum_by (λ e. e.length) (between i j zs) < 65536
+blocks_few es zs i j q h l =
+    omega (arith, ap (λ xs. sum_by (λ (e : Entry). e.length) (between i j xs)) q, blocks_sum (between i j es), blocks_between es i j h)

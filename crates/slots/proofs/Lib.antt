@@ -1,4 +1,5 @@
 pub mod Reading
 pub mod Lawful
-mod Splices
+mod Shifts
+pub mod Splices
 pub mod Blocks

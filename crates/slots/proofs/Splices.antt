@@ -1,79 +1,82 @@
--- What one entry written, put in or taken out leaves of a segment's entries.
-use Rattle.std.proofs.Common.{◌≡◌, ℕ, suc, ◌+◌, ◌<◌, ◌≤◌, cond, List, [], ◌∷◌, ◌++◌, length, take, drop, set, sym, ap, ◌∙◌, add-one, arith}
-use Rattle.std.specs.List.{insert, remove, remove_range, between}
-use Rattle.std.proofs.lemmas.List.{append_assoc, set_split, take_at, drop_at, drop-drop, length-take-le, length-set, length_push}
+-- What a write to one of the slots, and a move of those behind it, leave of the entries.
+use Rattle.std.proofs.Common.{◌≡◌, ℕ, ◌+◌, ◌-◌, ◌<◌, ◌≤◌, cond, List, [], ◌∷◌, ◌++◌, length, take, drop, set, sym, refl, ap, ◌∙◌, arith}
+use lib.Seq.{take-set-lt}
+use Rattle.std.specs.List.{insert, between}
+use Rattle.std.proofs.lemmas.List.{append_assoc, take_more_set, take-set, drop-set-lt, take-append-drop, drop_at, length-take-le, length-set}
 use Rattle.std.proofs.lemmas.Bool.{eq-eqb, ne_eqb}
-use Rattle.arrayvec.specs.ArrayVec.{ArrayVec, array_vec_len, with_items}
-use Rattle.arrayvec.proofs.ArrayVecLemmas.{items-with_items}
 use Rattle.volume.specs.declared.entry.Entry.{Entry}
 use Rattle.edits.specs.Entries.{empty_of, blocks_of}
 use Rattle.edits.specs.Edits.{spliced, rest, run_start, run_end, emptied}
 
--- one entry written
-module _ (s : ArrayVec Entry) (es : List Entry) (i : ℕ) (e : Entry) (q : es ≡ s.items) where
-  there : (with_items s (set es i e)).items ≡ set s.items i e
-  there = items-with_items s (set es i e) (length-set es i e ∙ ap length q) ∙ ap (λ z. set z i e) q
+-- a list with one entry written, in parts
+set_parts : (es : List Entry) (i : ℕ) (e : Entry) → i < length es → set es i e ≡ take i es ++ e ∷ drop (i + 1) es
+set_parts es i e l =
+    sym (take-append-drop (i + 1) (set es i e))
+    ∙ ap (λ z. z ++ drop (i + 1) (set es i e)) (take_more_set es i e l)
+    ∙ ap (λ z. (take i es ++ e ∷ []) ++ z) (drop-set-lt (i + 1) es i e (omega arith))
+    ∙ append_assoc (take i es) (e ∷ []) (drop (i + 1) es)
 
-  pub length-written : array_vec_len (with_items s (set es i e)) ≡ array_vec_len s
-  length-written = ap length there ∙ length-set s.items i e
+module _ (xs : List Entry) (n i : ℕ) (l : n ≤ length xs) (h : i < n) where
+  long : i < length (take n xs)
+  long = omega (arith, length-take-le n xs l)
 
-  pub written_is : i < array_vec_len s → (with_items s (set es i e)).items ≡ spliced i 1 (e ∷ []) s.items
+  pub spliced-one : (e : Entry) → take n (set xs i e) ≡ spliced i 1 (e ∷ []) (take n xs)
   unfolding spliced
-  written_is h = there ∙ set_split s.items i e h ∙ ap (λ n. take i s.items ++ e ∷ drop n s.items) (sym (add-one i))
+  spliced-one e = take-set-lt n xs i e h ∙ set_parts (take n xs) i e long
 
-module _ (es : List Entry) (i : ℕ) (h : i < length es) where
-  at : length (take i es) ≡ i
-  at = length-take-le i es (omega arith)
-
-  -- and another put in before it
-  pub spliced_by_two : (a b : Entry) → insert (spliced i 1 (b ∷ []) es) i a ≡ spliced i 1 (a ∷ b ∷ []) es
+  pub spliced_by_two : (a b : Entry) → insert (take n (set xs i b)) i a ≡ spliced i 1 (a ∷ b ∷ []) (take n xs)
   unfolding spliced
-  spliced_by_two a b = rw (take_at (take i es) (b ∷ drop (i + 1) es) i at, drop_at (take i es) (b ∷ drop (i + 1) es) i at)
+  spliced_by_two a b =
+      let es = take n xs in
+      let front : take i (set es i b) ≡ take i es = take-set es i b in
+      let back : drop i (set es i b) ≡ b ∷ drop (i + 1) es
+      = ap (drop i) (set_parts es i b long) ∙ drop_at (take i es) (b ∷ drop (i + 1) es) i (length-take-le i es (omega (arith, long))) in
+      ap (λ z. insert z i a) (take-set-lt n xs i b h) ∙ ap (λ z. z ++ a ∷ drop i (set es i b)) front ∙ ap (λ z. take i es ++ a ∷ z) back
 
-  -- up to it, and behind the one after it
-  front : (e : Entry) → take (i + 1) (spliced i 1 (e ∷ []) es) ≡ take i es ++ e ∷ []
-  unfolding spliced
-  front e =
-      ap (take (i + 1)) (sym (append_assoc (take i es) (e ∷ []) (drop (i + 1) es)))
-      ∙ take_at (take i es ++ e ∷ []) (drop (i + 1) es) (i + 1) (length_push (take i es) e ∙ ap (λ n. n + 1) at)
-
-  back : (n : ℕ) (e : Entry) → n ≡ i + 2 → drop n (spliced i 1 (e ∷ []) es) ≡ drop (i + 2) es
-  unfolding spliced
-  back n e q =
-      let two : i + (1 + 1) ≡ n = omega arith in
-      let one : i + 1 + 1 ≡ i + 2 = omega arith in
-      ap (λ m. drop m (take i es ++ e ∷ drop (i + 1) es)) (sym two)
-      ∙ sym (drop-drop (1 + 1) i (take i es ++ e ∷ drop (i + 1) es))
-      ∙ ap (drop (1 + 1)) (drop_at (take i es) (e ∷ drop (i + 1) es) i at)
-      ∙ drop-drop 1 (i + 1) es
-      ∙ ap (λ m. drop m es) one
+  -- an entry written, and those behind it up to a place taken out
+  pub closed_is : (to : ℕ) (e : Entry) → i < to
+      → take (i + 1) (take n (set xs i e)) ++ drop to (take n (set xs i e)) ≡ take i (take n xs) ++ e ∷ drop to (take n xs)
+  closed_is to e m =
+      let es = take n xs in
+      ap (λ z. take (i + 1) z ++ drop to z) (take-set-lt n xs i e h)
+      ∙ ap (λ z. z ++ drop to (set es i e)) (take_more_set es i e long)
+      ∙ ap (λ z. (take i es ++ e ∷ []) ++ z) (drop-set-lt to es i e m)
+      ∙ append_assoc (take i es) (e ∷ []) (drop to es)
 
   -- two entries replaced by one, or by one and an empty
-  pub two_by_one : (e : Entry) (b : ℕ) → b ≡ 0 → remove (spliced i 1 (e ∷ []) es) (i + 1) ≡ spliced i 2 (e ∷ rest b) es
+  pub two_by_one : (ys : List Entry) (e : Entry) (b : ℕ) → b ≡ 0
+      → take (n - (i + 2 - (i + 1))) ys ≡ take (i + 1) (take n (set xs i e)) ++ drop (i + 2) (take n (set xs i e))
+      → take (n - 1) ys ≡ spliced i 2 (e ∷ rest b) (take n xs)
   unfolding spliced
-  two_by_one e b z =
-      ap (λ x. take (i + 1) (spliced i 1 (e ∷ []) es) ++ x) (back (suc (i + 1)) e (omega arith))
-      ∙ ap (λ x. x ++ drop (i + 2) es) (front e)
-      ∙ append_assoc (take i es) (e ∷ []) (drop (i + 2) es)
+  two_by_one ys e b z q =
+      let es = take n xs in
+      let one : n - 1 ≡ n - (i + 2 - (i + 1)) = omega arith in
+      ap (λ m. take m ys) one
+      ∙ q
+      ∙ closed_is (i + 2) e (omega arith)
       ∙ ap (λ t. take i es ++ ((e ∷ cond t [] (empty_of b ∷ [])) ++ drop (i + 2) es)) (sym (eq-eqb b 0 z))
 
-  pub two_by_two : (e f : Entry) (b : ℕ) → (b ≡ 0 → ⊥) → f ≡ empty_of b
-      → spliced (i + 1) 1 (f ∷ []) (spliced i 1 (e ∷ []) es) ≡ spliced i 2 (e ∷ rest b) es
+  pub two_by_two : (e f : Entry) (b : ℕ) → i + 1 < n → (b ≡ 0 → ⊥) → f ≡ empty_of b
+      → take n (set (set xs i e) (i + 1) f) ≡ spliced i 2 (e ∷ rest b) (take n xs)
   unfolding spliced
-  two_by_two e f b z q =
-      ap (λ x. take (i + 1) (spliced i 1 (e ∷ []) es) ++ f ∷ x) (back (i + 1 + 1) e (omega arith))
-      ∙ ap (λ x. x ++ f ∷ drop (i + 2) es) (front e)
+  two_by_two e f b m z q =
+      let es = take n xs in
+      let ys = set es i e in
+      let ly : i + 1 < length ys = simp length-set (omega (arith, length-take-le n xs l)) in
+      let two : i + 1 + 1 ≡ i + 2 = omega arith in
+      take-set-lt n (set xs i e) (i + 1) f m
+      ∙ ap (λ z. set z (i + 1) f) (take-set-lt n xs i e h)
+      ∙ set_parts ys (i + 1) f ly
+      ∙ ap (λ z. z ++ f ∷ drop (i + 1 + 1) ys) (take_more_set es i e long)
+      ∙ ap (λ z. (take i es ++ e ∷ []) ++ f ∷ z) (drop-set-lt (i + 1 + 1) es i e (omega arith) ∙ ap (λ k. drop k es) two)
       ∙ append_assoc (take i es) (e ∷ []) (f ∷ drop (i + 2) es)
-      ∙ ap (λ x. take i es ++ e ∷ x ∷ drop (i + 2) es) q
+      ∙ ap (λ z. take i es ++ e ∷ z ∷ drop (i + 2) es) q
       ∙ ap (λ t. take i es ++ ((e ∷ cond t [] (empty_of b ∷ [])) ++ drop (i + 2) es)) (sym (ne_eqb b 0 z))
 
--- a run of empties taken out, and one empty put in where it began
-pub emptied_is : (es ys zs : List Entry) (i from to : ℕ) (e : Entry) → ys ≡ remove_range es from to → zs ≡ insert ys from e
-    → from ≤ length es → from ≡ run_start es i → to ≡ run_end es i → e ≡ empty_of (blocks_of (between from to es))
-    → zs ≡ emptied i es
+-- an entry made empty
+pub emptied_is : (xs : List Entry) (n i from to : ℕ) (e : Entry) → n ≤ length xs → from < to → to ≤ n
+    → from ≡ run_start (take n xs) i → to ≡ run_end (take n xs) i → e ≡ empty_of (blocks_of (between from to (take n xs)))
+    → take (from + 1) (take n (set xs from e)) ++ drop to (take n (set xs from e)) ≡ emptied i (take n xs)
 unfolding emptied
-emptied_is es ys zs i from to e p q h f t b =
-    let at = length-take-le from es h in
-    q
-    ∙ ap (λ z. insert z from e) p
-    ∙ rw (take_at (take from es) (drop to es) from at, drop_at (take from es) (drop to es) from at, ← f, ← t, ← b)
+emptied_is xs n i from to e l h h₁ p q r =
+    closed_is xs n from l (omega arith) to e h ∙ rw (← p, ← q, ← r) refl

@@ -1,24 +1,20 @@
 // The entries of a segment, read from the directory and written to it.
 ghost use Rattle.std.specs.Prelude.{◌≡◌, ◌-◌, ◌*◌, ◌≤◌, length, take, drop};
-ghost use Rattle.arrayvec.specs.ArrayVec.{array_vec_len};
 ghost use Rattle.codec.specs.Words.{written};
 ghost use Rattle.volume.specs.Segments.{capacity_of, segment_bytes};
 ghost use Rattle.segment.specs.Chains.{InDirectory};
 ghost use Rattle.directory.specs.Walks.{Readable};
 ghost use Rattle.edits.specs.Entries.{is_empty};
 ghost use Rattle.edits.specs.Values.{cleaned, value_at};
-ghost use Rattle.slots.specs.Slots.{header_at};
+ghost use Rattle.slots.specs.Slots.{slot_entries, header_at};
 
-use arrayvec::ArrayVec;
+pub use crate::entries::Slots;
 use codec::words::{put, word_at};
 use segment::chain::segment_at;
 use segment::entry::decode_entry;
 use segment::walk::entry_start;
 use volume::entry::{Entry, empty_of};
 use volume::segment::{Header, capacity, encode_segment};
-
-// The entries of a segment, which has room for 72 at most.
-pub type Slots = ArrayVec<Entry, 72>;
 
 // An entry as it is written again: an empty is zero but for status and length.
 fn cleaned(e: Entry) -> Entry
@@ -37,19 +33,22 @@ pub(crate) fn is_empty(e: &Entry) -> bool
 // The entries of a segment. For our other crates: the caller has found the segment lawful.
 pub fn entries_at(dir: &[u8], k: usize, extra: u16) -> Slots
     requires { (Readable extra dir.now k) × (extra ≤ 64) }
-    ensures entries { result.items ≡ value_at extra dir.now k }
-    ensures room { array_vec_len result ≤ capacity_of extra }
+    ensures entries { slot_entries result ≡ value_at extra dir.now k }
+    ensures room { (result.count ≤ capacity_of extra) × (result.count ≤ 72) }
 {
     let segment = segment_at(dir, k);
-    let mut entries = Slots::new();
-    // By `map_while` the loop did not prove.
-    for i in 0..capacity(extra) {
+    let most = capacity(extra);
+    let mut entries = [empty_of(0); 72];
+    for i in 0..most {
         let Some(e) = decode_entry(segment, entry_start(i, extra), extra) else {
-            return entries;
+            return Slots { count: i, entries };
         };
-        entries.push(cleaned(e));
+        entries[i] = cleaned(e);
     }
-    entries
+    Slots {
+        count: most,
+        entries,
+    }
 }
 
 // The header of a segment: total, highest and extra are those of segment 1. For our other crates: the caller has checked
@@ -81,26 +80,26 @@ pub fn put_segment(dir: &mut [u8], k: usize, header: &Header, entries: &[Entry])
 
 // All entries. Bare slices at the calls of this and of those below would be no plainer: they would not say what is written.
 pub fn all_entries(s: &Slots) -> &[Entry]
-    ensures entries { result.now ≡ s.now.items }
-    ensures long { length result.now ≡ array_vec_len s.now }
+    ensures entries { result.now ≡ slot_entries s.now }
+    ensures long { length result.now ≡ s.now.count }
 {
-    &s[..]
+    &s.entries[..s.count]
 }
 
 // The first n entries.
 pub fn first_entries(s: &Slots, n: usize) -> &[Entry]
-    requires { n ≤ array_vec_len s.now }
-    ensures entries { result.now ≡ take n s.now.items }
+    requires { n ≤ s.now.count }
+    ensures entries { result.now ≡ take n (slot_entries s.now) }
     ensures long { length result.now ≡ n }
 {
-    &s[..n]
+    &s.entries[..n]
 }
 
 // The entries behind the first n.
 pub fn last_entries(s: &Slots, n: usize) -> &[Entry]
-    requires { n ≤ array_vec_len s.now }
-    ensures entries { result.now ≡ drop n s.now.items }
-    ensures long { length result.now ≡ array_vec_len s.now - n }
+    requires { n ≤ s.now.count }
+    ensures entries { result.now ≡ drop n (slot_entries s.now) }
+    ensures long { length result.now ≡ s.now.count - n }
 {
-    &s[n..]
+    &s.entries[n..s.count]
 }

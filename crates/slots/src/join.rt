@@ -1,11 +1,12 @@
 // An entry that becomes empty joins the run of empties around it.
 ghost use Rattle.std.specs.Prelude.{◌≡◌, ◌<◌, ◌≤◌, length};
 ghost use Rattle.std.specs.List.{prefix_len, suffix_len, sum_by};
-ghost use Rattle.arrayvec.specs.ArrayVec.{array_vec_len};
 ghost use Rattle.edits.specs.Entries.{is_empty, blocks_of};
 ghost use Rattle.edits.specs.Edits.{run_start, run_end, emptied};
+ghost use Rattle.slots.specs.Slots.{slot_entries};
 
-use crate::bytes::{Slots, is_empty};
+use crate::bytes::{Slots, all_entries, is_empty};
+use crate::splice::close_up;
 use volume::entry::{Entry, empty_of};
 
 // How many empties end a list.
@@ -53,14 +54,17 @@ fn blocks_of(entries: &[Entry]) -> u16
 
 // Makes an entry empty. For our other crates: the caller has found the entry, and a volume has its segment's blocks.
 pub fn make_empty(s: &mut Slots, i: usize)
-    requires place { i < array_vec_len s.old }
-    requires blocks { blocks_of s.old.items < 65536 }
-    ensures entries { s.new.items ≡ emptied i s.old.items }
-    ensures count { (1 ≤ array_vec_len s.new) × (array_vec_len s.new ≤ array_vec_len s.old) }
+    requires place { i < s.old.count }
+    requires blocks { blocks_of (slot_entries s.old) < 65536 }
+    ensures entries { slot_entries s.new ≡ emptied i (slot_entries s.old) }
+    ensures count { (1 ≤ s.new.count) × (s.new.count ≤ s.old.count) }
 {
-    let from = run_start(s, i);
-    let to = run_end(s, i);
-    let blocks = blocks_of(&s[from..to]);
-    s.drain(from..to);
-    s.insert(from, empty_of(blocks));
+    let all = all_entries(s);
+    let from = run_start(all, i);
+    let to = run_end(all, i);
+    let blocks = blocks_of(&all[from..to]);
+    let count = s.count;
+    s.entries[from] = empty_of(blocks);
+    close_up(&mut s.entries, count, from + 1, to);
+    s.count = count - (to - (from + 1));
 }

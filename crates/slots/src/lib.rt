@@ -2,5 +2,6 @@
 #![tactic(auto)]
 
 pub mod bytes;
+mod entries;
 pub mod join;
 pub mod splice;

@@ -97,8 +97,10 @@ fn put_words(memory: &mut [u8], segment: usize, at: usize, words: &[u16]) {
         .wrapping_mul(1024)
         .wrapping_add(2048)
         .wrapping_add(at);
+    // sliced, since `skip` would step over each byte before
+    let from = start.min(memory.len());
     let bytes = words.iter().flat_map(|word| word.to_le_bytes());
-    for (place, byte) in memory.iter_mut().skip(start).zip(bytes) {
+    for (place, byte) in memory[from..].iter_mut().zip(bytes) {
         *place = byte;
     }
 }
@@ -140,11 +142,10 @@ fn put_entries(memory: &mut [u8], segment: usize, extra: u16, entries: &[Entry])
 
 // The last byte of each block behind the directory tells the number of the block.
 fn number_blocks(memory: &mut [u8]) {
-    for (b, last) in (0..100)
-        .zip(memory.iter_mut().skip(511).step_by(512))
-        .skip(14)
-    {
-        *last = b;
+    for (b, block) in (0..100).zip(memory.chunks_exact_mut(512)).skip(14) {
+        if let Some(last) = block.last_mut() {
+            *last = b;
+        }
     }
 }
 

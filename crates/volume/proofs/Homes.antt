@@ -89,3 +89,7 @@ home-made old b c s h e f p =
     = f ∙ ap (λ (x : List ℕ). words_sum x 255 % 65536) e ∙ ap (λ (x : ℕ). x % 65536) (words_front (home_front old) (replicate 2 0) 255 (omega (arith, front_long old h))) in
     p ∙ ap (λ (x : List ℕ). written x 510 (word_bytes s)) e ∙ into_zeros (home_front old) (word_bytes s) 2 0 510 0 (omega (arith, front_long old h)) refl
     ∙ append-nil (home_front old ++ word_bytes s) ∙ ap (λ (x : ℕ). home_front old ++ word_bytes x) k
+
+pub home-long : (old : List ℕ) → length old ≡ 512 → length (home old) ≡ 512
+unfolding home
+home-long old h = length-append (home_front old) _ ∙ omega (arith, front_long old h)

@@ -1,6 +1,6 @@
 -- The steps of INITIALIZE.
-use Rattle.std.proofs.Common.{◌≡◌, ℕ, ◌-◌, ◌*◌, true, false, List, get_or, set, replicate, Ok, Err, Result, sym, ap, ◌∙◌, subst}
-use Rattle.std.proofs.lemmas.Bool.{cond-true, cond-false}
+use Rattle.std.proofs.Common.{◌≡◌, ℕ, ◌+◌, ◌-◌, ◌*◌, ◌≤◌, true, false, leb, List, get_or, set, replicate, Ok, Err, Result, sym, ap, ◌∙◌, subst}
+use Rattle.std.proofs.lemmas.Bool.{cond-true, cond-false, and_parts, leb-true}
 use Rattle.device.specs.declared.fault.DeviceFault.{DeviceFault}
 use Rattle.device.specs.Blocks.{Block, none, good, Whole}
 use Rattle.device.specs.Stacks.{Stack, shown, Became}
@@ -54,3 +54,9 @@ init_done t v s k x y f p a =
     subst (λ (z : Result (Unit {0}) FileFault). Became s (init_by z t (shown s)) k) p
     (subst (λ (z : ℕ). Became s (laid_out (shown s) t z (get_or (shown s) 1 none).bytes) k) y
     (subst (λ (z : List ℕ). Became s (laid_out (shown s) t v z) k) e a))
+
+pub fit_range : (t v : ℕ) → true ≡ segments_fit t v → (1 ≤ t) × ((t ≤ 31) × (7 + 2 * t ≤ v))
+fit_range t v e =
+    let p = and_parts (leb 1 t) _ (sym e) in
+    let q = and_parts (leb t 31) _ p.1 in
+    (leb-true 1 t p.0, (leb-true t 31 q.0, leb-true (7 + 2 * t) v q.1))

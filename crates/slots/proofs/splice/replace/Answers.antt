@@ -1,5 +1,7 @@
-use Rattle.slots.proofs.Splices.{written_is}
+use Rattle.std.proofs.Common.{arith}
+use Rattle.slots.proofs.Splices.{spliced-one}
 use Rattle.slots.proofs.splice.replace.Goals as goal
 
 pub returns-clause-entries : goal.returns-clause-entries
-returns-clause-entries c = written_is c.args.s.now c.deref_mut.result.now c.args.i c.args.e c.deref_mut.ensures.value c.requires
+returns-clause-entries c =
+    spliced-one c.args.s.now.entries c.args.s.now.count c.args.i (omega (arith, c.args.s.now.few)) c.requires c.args.e

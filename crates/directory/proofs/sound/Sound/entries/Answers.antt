@@ -10,7 +10,7 @@ use Rattle.directory.proofs.sound.Sound.entries.Goals as goal
 pub new-requires : goal.new-requires
 new-requires c =
     let dir = c.args.self.bytes.now in
-    let k : c.as_slice.result.now ≡ chain_of dir = c.as_slice.ensures.value ∙ c.requires in
+    let k : c.as_slice.result.now ≡ chain_of dir = c.as_slice.ensures ∙ c.requires in
     let s : c.first_spot.result ≡ spot 0 0 (6 + 2 * word_at dir 0) = c.first_spot.ensures ∙ ap (spot 0 0) c.first_block.ensures in
     ∥∥₁_elim c.args.self.sound (OnWay-prop c.word_at.result dir c.as_slice.result.now c.first_spot.result) (λ t. rw (c.word_at.ensures, k, s) (chain_way dir t))
 
@@ -18,7 +18,7 @@ pub returns : goal.returns
 unfolding placed_of
 returns c =
     let dir = c.args.self.bytes.now in
-    let k : c.as_slice.result.now ≡ chain_of dir = c.as_slice.ensures.value ∙ c.requires in
+    let k : c.as_slice.result.now ≡ chain_of dir = c.as_slice.ensures ∙ c.requires in
     let s : c.first_spot.result ≡ spot 0 0 (6 + 2 * word_at dir 0) = c.first_spot.ensures ∙ ap (spot 0 0) c.first_block.ensures in
     record {
       entries = c.new.ensures.entries ∙ rw (c.word_at.ensures, k, s) refl;
